@@ -11,7 +11,7 @@ use Rattle.clap.specs.Values.{IsSignedIn}
 use Rattle.clap.specs.Words.{Row, Text, without_minus}
 use Rattle.clap.proofs.CallerReads.{signed_reads}
 use Rattle.llrp_tree.specs.declared.TheConstants.{MAX_LIMIT}
-use Rattle.llrp_commands.specs.Private.Parse.{HasEpc, HasFlagWord, HasLimitedWords, HasNumberIn, HasNumberWord, HasPlan, HasAsk, HasSim, HasStop, HasStreamWords, HasWatch, HasWord, IsFound, IsNetworkParse, IsParse, MayHaveNumberIn, HasFields}
+use Rattle.llrp_commands.specs.Private.Parse.{HasEpc, HasFlagWord, HasLimitedWords, HasNumberIn, HasNumberWord, HasPlan, HasAccess, HasAsk, HasSim, HasStop, HasStreamWords, HasWatch, HasWord, IsFound, IsNetworkParse, IsParse, MayHaveNumberIn, HasFields}
 use Rattle.llrp_commands.specs.Calls.Arguments.{IsFlag, least_longest, HasNumber, HasOptionalNumber, flag_in, hex_in, json_in, name_in, all_in}
 use Rattle.llrp_commands.specs.Private.Arguments.{HasFlag}
 
@@ -57,7 +57,8 @@ sim_there name rows (inr (inl h)) e = absurd (differs (codes "inventory") (codes
 sim_there name rows (inr (inr (inl h))) e = absurd (differs (codes "loop") (codes "sim") refl (sym h.0 ∙ e))
 sim_there name rows (inr (inr (inr (inl h)))) e = absurd (differs (codes "watch") (codes "sim") refl (sym h.0 ∙ e))
 sim_there name rows (inr (inr (inr (inr (inl h))))) e = absurd (differs (codes "stop") (codes "sim") refl (sym h.0 ∙ e))
-sim_there name rows (inr (inr (inr (inr (inr h))))) e = absurd (differs (codes "ask") (codes "sim") refl (sym h.0 ∙ e))
+sim_there name rows (inr (inr (inr (inr (inr (inl h)))))) e = absurd (differs (codes "ask") (codes "sim") refl (sym h.0 ∙ e))
+sim_there name rows (inr (inr (inr (inr (inr (inr h)))))) e = absurd (differs (codes "access") (codes "sim") refl (sym h.0 ∙ e))
 
 -- watch has its reader and its options
 pub watch_there : (name : Text) (rows : List Row) → IsNetworkParse name rows → name ≡ codes "watch" → HasWord (codes "HOST") rows × HasWatch rows
@@ -66,7 +67,8 @@ watch_there name rows (inr (inl h)) e = absurd (differs (codes "inventory") (cod
 watch_there name rows (inr (inr (inl h))) e = absurd (differs (codes "loop") (codes "watch") refl (sym h.0 ∙ e))
 watch_there name rows (inr (inr (inr (inl h)))) e = (h.1, h.2)
 watch_there name rows (inr (inr (inr (inr (inl h))))) e = absurd (differs (codes "stop") (codes "watch") refl (sym h.0 ∙ e))
-watch_there name rows (inr (inr (inr (inr (inr h))))) e = absurd (differs (codes "ask") (codes "watch") refl (sym h.0 ∙ e))
+watch_there name rows (inr (inr (inr (inr (inr (inl h)))))) e = absurd (differs (codes "ask") (codes "watch") refl (sym h.0 ∙ e))
+watch_there name rows (inr (inr (inr (inr (inr (inr h)))))) e = absurd (differs (codes "access") (codes "watch") refl (sym h.0 ∙ e))
 
 -- stop has its reader and its options
 pub stop_there : (name : Text) (rows : List Row) → IsNetworkParse name rows → name ≡ codes "stop" → HasWord (codes "HOST") rows × HasStop rows
@@ -75,7 +77,8 @@ stop_there name rows (inr (inl h)) e = absurd (differs (codes "inventory") (code
 stop_there name rows (inr (inr (inl h))) e = absurd (differs (codes "loop") (codes "stop") refl (sym h.0 ∙ e))
 stop_there name rows (inr (inr (inr (inl h)))) e = absurd (differs (codes "watch") (codes "stop") refl (sym h.0 ∙ e))
 stop_there name rows (inr (inr (inr (inr (inl h))))) e = (h.1, h.2)
-stop_there name rows (inr (inr (inr (inr (inr h))))) e = absurd (differs (codes "ask") (codes "stop") refl (sym h.0 ∙ e))
+stop_there name rows (inr (inr (inr (inr (inr (inl h)))))) e = absurd (differs (codes "ask") (codes "stop") refl (sym h.0 ∙ e))
+stop_there name rows (inr (inr (inr (inr (inr (inr h)))))) e = absurd (differs (codes "access") (codes "stop") refl (sym h.0 ∙ e))
 
 -- ask has its reader, its file and its options
 pub ask_there : (name : Text) (rows : List Row) → IsNetworkParse name rows → name ≡ codes "ask" → HasWord (codes "HOST") rows × HasAsk rows
@@ -84,17 +87,29 @@ ask_there name rows (inr (inl h)) e = absurd (differs (codes "inventory") (codes
 ask_there name rows (inr (inr (inl h))) e = absurd (differs (codes "loop") (codes "ask") refl (sym h.0 ∙ e))
 ask_there name rows (inr (inr (inr (inl h)))) e = absurd (differs (codes "watch") (codes "ask") refl (sym h.0 ∙ e))
 ask_there name rows (inr (inr (inr (inr (inl h))))) e = absurd (differs (codes "stop") (codes "ask") refl (sym h.0 ∙ e))
-ask_there name rows (inr (inr (inr (inr (inr h))))) e = (h.1, h.2)
+ask_there name rows (inr (inr (inr (inr (inr (inl h)))))) e = (h.1, h.2)
+ask_there name rows (inr (inr (inr (inr (inr (inr h)))))) e = absurd (differs (codes "access") (codes "ask") refl (sym h.0 ∙ e))
 
--- what is none of sim, watch, stop, ask and loop is inventory, with its host and its port
-pub inventory_there : (name : Text) (rows : List Row) → IsNetworkParse name rows → (name ≡ codes "sim" → ⊥) → (name ≡ codes "watch" → ⊥) → (name ≡ codes "stop" → ⊥) → (name ≡ codes "ask" → ⊥) → (name ≡ codes "loop" → ⊥)
+-- access has its reader, its tag and its options
+pub access_there : (name : Text) (rows : List Row) → IsNetworkParse name rows → name ≡ codes "access" → HasWord (codes "HOST") rows × HasAccess rows
+access_there name rows (inl h) e = absurd (differs (codes "sim") (codes "access") refl (sym h.0 ∙ e))
+access_there name rows (inr (inl h)) e = absurd (differs (codes "inventory") (codes "access") refl (sym h.0 ∙ e))
+access_there name rows (inr (inr (inl h))) e = absurd (differs (codes "loop") (codes "access") refl (sym h.0 ∙ e))
+access_there name rows (inr (inr (inr (inl h)))) e = absurd (differs (codes "watch") (codes "access") refl (sym h.0 ∙ e))
+access_there name rows (inr (inr (inr (inr (inl h))))) e = absurd (differs (codes "stop") (codes "access") refl (sym h.0 ∙ e))
+access_there name rows (inr (inr (inr (inr (inr (inl h)))))) e = absurd (differs (codes "ask") (codes "access") refl (sym h.0 ∙ e))
+access_there name rows (inr (inr (inr (inr (inr (inr h)))))) e = (h.1, h.2)
+
+-- what is none of sim, watch, stop, ask, access and loop is inventory, with its host and its port
+pub inventory_there : (name : Text) (rows : List Row) → IsNetworkParse name rows → (name ≡ codes "sim" → ⊥) → (name ≡ codes "watch" → ⊥) → (name ≡ codes "stop" → ⊥) → (name ≡ codes "ask" → ⊥) → (name ≡ codes "access" → ⊥) → (name ≡ codes "loop" → ⊥)
     → (name ≡ codes "inventory") × HasWord (codes "HOST") rows × HasNumberWord (codes "PORT") rows × HasNumberIn least_longest MAX_LIMIT (codes "limit") rows × HasFlagWord (codes "verbose") rows
-inventory_there name rows (inl h) no_sim no_watch no_stop no_ask no_loop = absurd (no_sim h.0)
-inventory_there name rows (inr (inl h)) no_sim no_watch no_stop no_ask no_loop = (h.0, h.1, h.2, h.5, h.6)
-inventory_there name rows (inr (inr (inl h))) no_sim no_watch no_stop no_ask no_loop = absurd (no_loop h.0)
-inventory_there name rows (inr (inr (inr (inl h)))) no_sim no_watch no_stop no_ask no_loop = absurd (no_watch h.0)
-inventory_there name rows (inr (inr (inr (inr (inl h))))) no_sim no_watch no_stop no_ask no_loop = absurd (no_stop h.0)
-inventory_there name rows (inr (inr (inr (inr (inr h))))) no_sim no_watch no_stop no_ask no_loop = absurd (no_ask h.0)
+inventory_there name rows (inl h) no_sim no_watch no_stop no_ask no_access no_loop = absurd (no_sim h.0)
+inventory_there name rows (inr (inl h)) no_sim no_watch no_stop no_ask no_access no_loop = (h.0, h.1, h.2, h.5, h.6)
+inventory_there name rows (inr (inr (inl h))) no_sim no_watch no_stop no_ask no_access no_loop = absurd (no_loop h.0)
+inventory_there name rows (inr (inr (inr (inl h)))) no_sim no_watch no_stop no_ask no_access no_loop = absurd (no_watch h.0)
+inventory_there name rows (inr (inr (inr (inr (inl h))))) no_sim no_watch no_stop no_ask no_access no_loop = absurd (no_stop h.0)
+inventory_there name rows (inr (inr (inr (inr (inr (inl h)))))) no_sim no_watch no_stop no_ask no_access no_loop = absurd (no_ask h.0)
+inventory_there name rows (inr (inr (inr (inr (inr (inr h)))))) no_sim no_watch no_stop no_ask no_access no_loop = absurd (no_access h.0)
 
 -- what is none of show, encode, epc, fields and explain is a command that the program runs itself
 pub network_there : (name : Text) (rows : List Row) → IsParse name rows → (name ≡ codes "show" → ⊥) → (name ≡ codes "encode" → ⊥) → (name ≡ codes "epc" → ⊥) → (name ≡ codes "fields" → ⊥) → (name ≡ codes "explain" → ⊥) → IsNetworkParse name rows
@@ -117,7 +132,8 @@ epc_there name rows (inr (inr (inr (inr (inl h))))) e = absurd (differs (codes "
 epc_there name rows (inr (inr (inr (inr (inr (inl h)))))) e = absurd (differs (codes "loop") (codes "epc") refl (sym h.0 ∙ e))
 epc_there name rows (inr (inr (inr (inr (inr (inr (inl h))))))) e = absurd (differs (codes "watch") (codes "epc") refl (sym h.0 ∙ e))
 epc_there name rows (inr (inr (inr (inr (inr (inr (inr (inl h)))))))) e = absurd (differs (codes "stop") (codes "epc") refl (sym h.0 ∙ e))
-epc_there name rows (inr (inr (inr (inr (inr (inr (inr (inr h)))))))) e = absurd (differs (codes "ask") (codes "epc") refl (sym h.0 ∙ e))
+epc_there name rows (inr (inr (inr (inr (inr (inr (inr (inr (inl h))))))))) e = absurd (differs (codes "ask") (codes "epc") refl (sym h.0 ∙ e))
+epc_there name rows (inr (inr (inr (inr (inr (inr (inr (inr (inr h))))))))) e = absurd (differs (codes "access") (codes "epc") refl (sym h.0 ∙ e))
 
 -- fields has what it needs
 pub fields_there : (name : Text) (rows : List Row) → IsParse name rows → name ≡ codes "fields" → HasFields rows
@@ -131,7 +147,8 @@ fields_there name rows (inr (inr (inr (inr (inl h))))) e = absurd (differs (code
 fields_there name rows (inr (inr (inr (inr (inr (inl h)))))) e = absurd (differs (codes "loop") (codes "fields") refl (sym h.0 ∙ e))
 fields_there name rows (inr (inr (inr (inr (inr (inr (inl h))))))) e = absurd (differs (codes "watch") (codes "fields") refl (sym h.0 ∙ e))
 fields_there name rows (inr (inr (inr (inr (inr (inr (inr (inl h)))))))) e = absurd (differs (codes "stop") (codes "fields") refl (sym h.0 ∙ e))
-fields_there name rows (inr (inr (inr (inr (inr (inr (inr (inr h)))))))) e = absurd (differs (codes "ask") (codes "fields") refl (sym h.0 ∙ e))
+fields_there name rows (inr (inr (inr (inr (inr (inr (inr (inr (inl h))))))))) e = absurd (differs (codes "ask") (codes "fields") refl (sym h.0 ∙ e))
+fields_there name rows (inr (inr (inr (inr (inr (inr (inr (inr (inr h))))))))) e = absurd (differs (codes "access") (codes "fields") refl (sym h.0 ∙ e))
 
 -- explain has what it needs
 pub explain_there : (name : Text) (rows : List Row) → IsParse name rows → name ≡ codes "explain" → HasLimitedWords rows
@@ -145,7 +162,8 @@ explain_there name rows (inr (inr (inr (inr (inl h))))) e = absurd (differs (cod
 explain_there name rows (inr (inr (inr (inr (inr (inl h)))))) e = absurd (differs (codes "loop") (codes "explain") refl (sym h.0 ∙ e))
 explain_there name rows (inr (inr (inr (inr (inr (inr (inl h))))))) e = absurd (differs (codes "watch") (codes "explain") refl (sym h.0 ∙ e))
 explain_there name rows (inr (inr (inr (inr (inr (inr (inr (inl h)))))))) e = absurd (differs (codes "stop") (codes "explain") refl (sym h.0 ∙ e))
-explain_there name rows (inr (inr (inr (inr (inr (inr (inr (inr h)))))))) e = absurd (differs (codes "ask") (codes "explain") refl (sym h.0 ∙ e))
+explain_there name rows (inr (inr (inr (inr (inr (inr (inr (inr (inl h))))))))) e = absurd (differs (codes "ask") (codes "explain") refl (sym h.0 ∙ e))
+explain_there name rows (inr (inr (inr (inr (inr (inr (inr (inr (inr h))))))))) e = absurd (differs (codes "access") (codes "explain") refl (sym h.0 ∙ e))
 
 -- what was found, by its name and its rows
 pub found_as : (name : Text) (rows : List Row) (found : Option (Text × List Row)) → Some name ≡ option_map (λ p. p.0) found → Some rows ≡ option_map (λ p. p.1) found → found ≡ Some (name, rows)
@@ -199,11 +217,13 @@ stream_words_of name rows (inr (inr (inr (inr (inl h))))) (inr e) = absurd (diff
 stream_words_of name rows (inr (inr (inr (inr (inr (inl h)))))) (inl e) = absurd (differs (codes "loop") (codes "show") refl (sym h.0 ∙ e))
 stream_words_of name rows (inr (inr (inr (inr (inr (inr (inl h))))))) (inl e) = absurd (differs (codes "watch") (codes "show") refl (sym h.0 ∙ e))
 stream_words_of name rows (inr (inr (inr (inr (inr (inr (inr (inl h)))))))) (inl e) = absurd (differs (codes "stop") (codes "show") refl (sym h.0 ∙ e))
-stream_words_of name rows (inr (inr (inr (inr (inr (inr (inr (inr h)))))))) (inl e) = absurd (differs (codes "ask") (codes "show") refl (sym h.0 ∙ e))
+stream_words_of name rows (inr (inr (inr (inr (inr (inr (inr (inr (inl h))))))))) (inl e) = absurd (differs (codes "ask") (codes "show") refl (sym h.0 ∙ e))
+stream_words_of name rows (inr (inr (inr (inr (inr (inr (inr (inr (inr h))))))))) (inl e) = absurd (differs (codes "access") (codes "show") refl (sym h.0 ∙ e))
 stream_words_of name rows (inr (inr (inr (inr (inr (inl h)))))) (inr e) = absurd (differs (codes "loop") (codes "encode") refl (sym h.0 ∙ e))
 stream_words_of name rows (inr (inr (inr (inr (inr (inr (inl h))))))) (inr e) = absurd (differs (codes "watch") (codes "encode") refl (sym h.0 ∙ e))
 stream_words_of name rows (inr (inr (inr (inr (inr (inr (inr (inl h)))))))) (inr e) = absurd (differs (codes "stop") (codes "encode") refl (sym h.0 ∙ e))
-stream_words_of name rows (inr (inr (inr (inr (inr (inr (inr (inr h)))))))) (inr e) = absurd (differs (codes "ask") (codes "encode") refl (sym h.0 ∙ e))
+stream_words_of name rows (inr (inr (inr (inr (inr (inr (inr (inr (inl h))))))))) (inr e) = absurd (differs (codes "ask") (codes "encode") refl (sym h.0 ∙ e))
+stream_words_of name rows (inr (inr (inr (inr (inr (inr (inr (inr (inr h))))))))) (inr e) = absurd (differs (codes "access") (codes "encode") refl (sym h.0 ∙ e))
 
 -- where show or encode was found its flag is there
 pub found_flag : (found : Option (Text × List Row)) → IsFound found → (name_in found ≡ Some (codes "show")) ⊎ (name_in found ≡ Some (codes "encode")) → (hex : Bool) × IsFlag (hex_in found) hex
@@ -230,13 +250,14 @@ found_limit (Some p) h (inl e) = number_of_word 10 MAX_LIMIT (codes "limit") p.0
 found_limit (Some p) h (inr e) = number_of_word 10 MAX_LIMIT (codes "limit") p.0 p.1 (stream_words_of p.0 p.1 h (inr (let same : p.0 ≡ codes "encode" = cc in same))).2
 
 -- what is none of sim, watch and stop has a plan
-pub plan_there : (name : Text) (rows : List Row) → IsNetworkParse name rows → (name ≡ codes "sim" → ⊥) → (name ≡ codes "watch" → ⊥) → (name ≡ codes "stop" → ⊥) → (name ≡ codes "ask" → ⊥) → HasPlan rows
-plan_there name rows (inl h) no_sim no_watch no_stop no_ask = absurd (no_sim h.0)
-plan_there name rows (inr (inl h)) no_sim no_watch no_stop no_ask = h.3
-plan_there name rows (inr (inr (inl h))) no_sim no_watch no_stop no_ask = h.1
-plan_there name rows (inr (inr (inr (inl h)))) no_sim no_watch no_stop no_ask = absurd (no_watch h.0)
-plan_there name rows (inr (inr (inr (inr (inl h))))) no_sim no_watch no_stop no_ask = absurd (no_stop h.0)
-plan_there name rows (inr (inr (inr (inr (inr h))))) no_sim no_watch no_stop no_ask = absurd (no_ask h.0)
+pub plan_there : (name : Text) (rows : List Row) → IsNetworkParse name rows → (name ≡ codes "sim" → ⊥) → (name ≡ codes "watch" → ⊥) → (name ≡ codes "stop" → ⊥) → (name ≡ codes "ask" → ⊥) → (name ≡ codes "access" → ⊥) → HasPlan rows
+plan_there name rows (inl h) no_sim no_watch no_stop no_ask no_access = absurd (no_sim h.0)
+plan_there name rows (inr (inl h)) no_sim no_watch no_stop no_ask no_access = h.3
+plan_there name rows (inr (inr (inl h))) no_sim no_watch no_stop no_ask no_access = h.1
+plan_there name rows (inr (inr (inr (inl h)))) no_sim no_watch no_stop no_ask no_access = absurd (no_watch h.0)
+plan_there name rows (inr (inr (inr (inr (inl h))))) no_sim no_watch no_stop no_ask no_access = absurd (no_stop h.0)
+plan_there name rows (inr (inr (inr (inr (inr (inl h)))))) no_sim no_watch no_stop no_ask no_access = absurd (no_ask h.0)
+plan_there name rows (inr (inr (inr (inr (inr (inr h)))))) no_sim no_watch no_stop no_ask no_access = absurd (no_access h.0)
 
 -- a flag that reads what it says is what it says
 pub reads_flag : (found : Option Text) (flag : Bool) → HasFlag found flag → (given : Bool) × IsFlag found given → IsFlag found flag

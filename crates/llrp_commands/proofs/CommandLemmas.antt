@@ -8,7 +8,7 @@ use Rattle.clap.specs.declared.error.Error.{Error}
 use Rattle.clap.specs.declared.error.kind.ErrorKind.TheVariants.{OutOfMemory}
 use Rattle.clap.proofs.SimpleLemmas.{is_nil}
 use Rattle.llrp_commands.specs.Private.Arguments.{HasFlag}
-use Rattle.llrp_commands.specs.Calls.Arguments.{command_in, files_in, llrp_app, parses}
+use Rattle.llrp_commands.specs.Calls.Arguments.{command_in, files_in, texts_in, llrp_app, parses}
 
 pub is_simple_program : is_simple llrp_app ≡ true
 unfolding llrp_app
@@ -40,6 +40,14 @@ pub no_files : (words : List Text) → (parses words ≡ true → ⊥) → [] �
 no_files words refused = go (parses words) refl
   where
     go : (parsed : Bool) → parses words ≡ parsed → [] ≡ (if parsed then files_in (command_in words) else [])
+    go true is = absurd (refused is)
+    go false is = refl
+
+-- nor do they give an option a text
+pub no_texts : (id : Text) (words : List Text) → (parses words ≡ true → ⊥) → [] ≡ (if parses words then texts_in id (command_in words) else [])
+no_texts id words refused = go (parses words) refl
+  where
+    go : (parsed : Bool) → parses words ≡ parsed → [] ≡ (if parsed then texts_in id (command_in words) else [])
     go true is = absurd (refused is)
     go false is = refl
 

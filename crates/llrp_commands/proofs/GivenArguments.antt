@@ -21,7 +21,7 @@ use Rattle.clap.specs.Walk.{one_of, row_text, plain_word, after_flag, long_or_ot
 use Rattle.clap.proofs.ValueTestLemmas.{accepts-Accepts}
 use Rattle.llrp_tree.specs.declared.TheConstants.{MAX_LIMIT}
 use Rattle.llrp_commands.specs.Private.Parse.{HasFlagWord, HasLimitWord, HasLimitedWords, HasNumberIn, HasNumberWord, HasStreamWords, HasWord, IsFound, IsParse, MayHaveLongCount, MayHaveNumberIn, MayHaveNumberWord}
-use Rattle.llrp_commands.specs.Calls.Arguments.{least_longest, long_count_rule, longest_rule, stop_app, watch_app, command_in, files_rule, limited_app, show_app, stream_app, with_files, hex_rule, json_rule, limit_rule, count_rule, flag_rule, host_rule, inventory_app, llrp_app, loop_app, number_rule, port_rule, epc_app, filter_rule, prefix_digits_rule, text_option_rule, text_rule, top_app, all_rule, sim_app, ask_app, file_rule, fields_app, name_rule}
+use Rattle.llrp_commands.specs.Calls.Arguments.{least_longest, long_count_rule, longest_rule, stop_app, watch_app, command_in, files_rule, limited_app, show_app, stream_app, with_files, hex_rule, json_rule, limit_rule, count_rule, flag_rule, host_rule, inventory_app, llrp_app, loop_app, number_rule, port_rule, epc_app, filter_rule, prefix_digits_rule, text_option_rule, text_rule, top_app, all_rule, sim_app, access_app, tag_rule, texts_rule, ask_app, file_rule, fields_app, name_rule}
 use Rattle.llrp_commands.proofs.ReadRows.{AllFound, AllUsesPass, HasRead, IsAmong, LevelPasses, both, append_passes, subcommand_there, flag_passes, has_read, help_passes, level_passes, set_passes, uses_pass}
 
 -- ---- a walk without a fault does not stop at help
@@ -776,7 +776,7 @@ ask_gives name words helpless met pass =
     let timeout = optional_read s uses found words pass the_timeout refl in
     let on = default_read s uses found words pass the_go_on refl (inr (inr (inr (inr (inl refl))))) (omega arith) in
     let raw = default_read s uses found words pass the_raw refl (inr (inr (inr (inr (inr (inl refl)))))) (omega arith) in
-    inr (inr (inr (inr (inr (inr (inr (inr (
+    inr (inr (inr (inr (inr (inr (inr (inr (inl (
       refl,
       word_there the_host _ host,
       (
@@ -786,7 +786,45 @@ ask_gives name words helpless met pass =
         flag_word (codes "go-on") the_go_on _ refl refl on,
         flag_word (codes "raw") the_raw _ refl refl raw,
       ),
-    ))))))))
+    )))))))))
+
+abbrev the_tag : Rule
+the_tag = with_index 2 (filled tag_rule)
+
+abbrev the_texts : Text → Rule
+the_texts name = with_index 2 (filled (texts_rule name))
+
+abbrev the_option : Text → Rule
+the_option name = with_index 2 (filled (text_option_rule name))
+
+abbrev the_verify : Rule
+the_verify = with_index 2 (filled (flag_rule (codes "verify")))
+
+access_gives : Gives (built_sub access_app.top)
+access_gives name words helpless met pass =
+    let s = built_sub access_app.top in
+    let c = s.rules in
+    let uses : AllUsesPass c c = (set_passes c the_host refl refl refl, (set_passes c the_tag refl refl refl, (append_passes c (the_texts (codes "read")) refl refl refl, (append_passes c (the_texts (codes "write")) refl refl refl, (set_passes c (the_option (codes "epc")) refl refl refl, (append_passes c (the_texts (codes "lock")) refl refl refl, (set_passes c (the_option (codes "password-file")) refl refl refl, (flag_passes c the_verify refl refl (omega arith), (set_passes c (the_count (codes "antenna")) refl refl refl, (set_passes c (the_count (codes "settle")) refl refl refl, (set_passes c (the_count (codes "timeout")) refl refl refl, (flag_passes c (the_plan_json 2) refl refl (omega arith), (help_passes c (the_help 2) refl, tt))))))))))))) in
+    let found : AllFound c c = (refl, (refl, (refl, (refl, (refl, (refl, (refl, (refl, (refl, (refl, (refl, (refl, (refl, tt))))))))))))) in
+    let host = required_read s uses found words pass refl the_host refl (inl refl) refl in
+    let tag = required_read s uses found words pass refl the_tag refl (inr (inl refl)) refl in
+    let verify = default_read s uses found words pass the_verify refl (inr (inr (inr (inr (inr (inr (inr (inl refl)))))))) (omega arith) in
+    let antenna = optional_read s uses found words pass (the_count (codes "antenna")) refl in
+    let settle = optional_read s uses found words pass (the_count (codes "settle")) refl in
+    let timeout = optional_read s uses found words pass (the_count (codes "timeout")) refl in
+    let json = default_read s uses found words pass (the_plan_json 2) refl (inr (inr (inr (inr (inr (inr (inr (inr (inr (inr (inr (inl refl)))))))))))) (omega arith) in
+    inr (inr (inr (inr (inr (inr (inr (inr (inr (
+      refl,
+      word_there the_host _ host,
+      (
+        word_there the_tag _ tag,
+        flag_word (codes "verify") the_verify _ refl refl verify,
+        may_number (the_count (codes "antenna")) _ 1 refl antenna,
+        may_number (the_count (codes "settle")) _ 1 refl settle,
+        may_number (the_count (codes "timeout")) _ 1 refl timeout,
+        flag_word (codes "json") (the_plan_json 2) _ refl refl json,
+      ),
+    )))))))))
 
 explain_gives : Gives (built_sub (with_files (limited_app (codes "explain"))).top)
 explain_gives name words helpless met pass = inr (inr (inl (inr (inr (refl, has_limited_words (built_sub (with_files (limited_app (codes "explain"))).top) refl words pass)))))
@@ -797,7 +835,7 @@ all_give = (
   show_gives,
   (
     encode_gives,
-    (epc_gives, (fields_gives, (explain_gives, (sim_gives, (inventory_gives, (loop_gives, (watch_gives, (stop_gives, (ask_gives, (λ name words helpless met pass. absurd (help_gives [] name refl helpless met), tt)))))))))),
+    (epc_gives, (fields_gives, (explain_gives, (sim_gives, (inventory_gives, (loop_gives, (watch_gives, (stop_gives, (ask_gives, (access_gives, (λ name words helpless met pass. absurd (help_gives [] name refl helpless met), tt))))))))))),
   ),
 )
 

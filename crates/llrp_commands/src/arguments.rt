@@ -3,9 +3,12 @@
 ghost use Rattle.std.specs.Prelude.{◌≡◌, ◌↔◌, IfOk, IfSome, IsTrue, List, Some, [], codes, false, map, true, unwrap_or, ℕ};
 ghost use Rattle.clap.specs.Words.{all_of, found_of, rows_of, subcommand_rows_of};
 ghost use Rattle.llrp_commands.specs.Private.Parse.{HasLimitWord, HasNumberWord, IsFound, IsNetworkParse, IsParse, IsText, HasPlan, MayHaveNumberWord};
-ghost use Rattle.llrp_commands.specs.Calls.Arguments.{AsksForInput, FilesAsked, HasNumber, HasOptionalNumber, HasOptionalText, IsBounded, IsNetwork, IsPlan, NetworkAsked, command_in, parses, reads_files};
-ghost use Rattle.llrp_commands.specs.Private.Arguments.{HasLimit, IsFiles, IsLimit, IsRequest};
+ghost use Rattle.llrp_commands.specs.Calls.Arguments.{AsksForInput, FilesAsked, HasNumber, HasOptionalNumber, HasOptionalText, IsBounded, IsNetwork, IsPlan, NetworkAsked, TextsAsked, command_in, parses, reads_files};
+ghost use Rattle.llrp_commands.specs.Private.Arguments.{HasLimit, IsFiles, IsLimit, IsRequest, IsTexts};
 
+mod access_commands;
+mod access_help;
+mod access_words;
 mod ask_commands;
 mod ask_help;
 mod ask_words;
@@ -20,6 +23,8 @@ mod watch_commands;
 mod watch_help;
 mod watch_words;
 
+pub use access_words::AccessWords;
+use access_words::access_words;
 pub use ask_words::AskWords;
 use ask_words::ask_words;
 use clap::ArgMatches;
@@ -91,6 +96,11 @@ pub enum NetworkCommand<'a> {
     Ask {
         host: &'a str,
         words: AskWords<'a>,
+    },
+    /// Reads, writes or locks one tag by the reader at this host.
+    Access {
+        host: &'a str,
+        words: AccessWords<'a>,
     },
 }
 
@@ -218,6 +228,12 @@ fn network_named<'a>(name: &str, inner: &ArgMatches<'a>) -> NetworkCommand<'a>
         return NetworkCommand::Ask {
             host: host(inner),
             words: ask_words(inner),
+        };
+    }
+    if name == "access" {
+        return NetworkCommand::Access {
+            host: host(inner),
+            words: access_words(inner),
         };
     }
     let plan = plan_words(inner);
@@ -381,6 +397,56 @@ pub fn files_asked<'a, S: AsStr>(alloc: Global, words: &'a [S]) -> Result<Vec<&'
     let command = llrp_command(alloc)?;
     match command.try_get_matches_from(words) {
         Ok(matches) => chosen_files(alloc, &matches),
+        Err(error) => match error.kind() {
+            ErrorKind::OutOfMemory => Err(AllocError),
+            _ => Ok(Vec::new(alloc)),
+        },
+    }
+}
+
+/// The texts of an option that may be given several times.
+fn given_texts<'a>(
+    alloc: Global,
+    inner: &ArgMatches<'a>,
+    id: &str,
+) -> Result<Vec<&'a str>, AllocError>
+    ensures { IfOk result (λ texts. map (λ text. text.now) texts.items
+        ≡ unwrap_or (all_of id.now (rows_of (found_of inner.now))) []) }
+{
+    match inner.get_strs(id) {
+        Some(texts) => texts.to_vec(alloc),
+        None => Ok(Vec::new(alloc)),
+    }
+}
+
+/// The texts of such an option of the command that the words name.
+fn chosen_texts<'a>(
+    alloc: Global,
+    matches: &ArgMatches<'a>,
+    id: &str,
+) -> Result<Vec<&'a str>, AllocError>
+    ensures { IfOk result (λ texts. IsTexts id.now (subcommand_rows_of matches.now)
+        (map (λ text. text.now) texts.items)) }
+{
+    match matches.subcommand() {
+        Some((_name, inner)) => given_texts(alloc, inner, id),
+        None => Ok(Vec::new(alloc)),
+    }
+}
+
+/// The texts that the words give an option of their command, in their order: `read`, `write` or `lock` of `access`. There are none
+/// where it is left out. The only error is that memory ran out.
+pub fn texts_asked<'a, S: AsStr>(
+    alloc: Global,
+    words: &'a [S],
+    id: &str,
+) -> Result<Vec<&'a str>, AllocError>
+    ensures { IfOk result (λ texts. TextsAsked id.now (map S.text words.entry.now)
+        (map (λ text. text.now) texts.items)) }
+{
+    let command = llrp_command(alloc)?;
+    match command.try_get_matches_from(words) {
+        Ok(matches) => chosen_texts(alloc, &matches, id),
         Err(error) => match error.kind() {
             ErrorKind::OutOfMemory => Err(AllocError),
             _ => Ok(Vec::new(alloc)),

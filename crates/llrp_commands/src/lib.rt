@@ -22,8 +22,8 @@ pub mod laws;
 mod show_names;
 
 pub use arguments::{
-    AskWords, NetworkCommand, PlanWords, SimWords, StopWords, WatchWords, files_asked,
-    network_command, reads_input,
+    AccessWords, AskWords, NetworkCommand, PlanWords, SimWords, StopWords, WatchWords, files_asked,
+    network_command, reads_input, texts_asked,
 };
 pub use command::{LIMIT, USAGE, answer, run_command, write_refusal};
 pub use epc_table::{prefixes_file, refuse_table, run_epc_by};

@@ -10,7 +10,8 @@ use Rattle.clap.specs.declared.builder.ArgAction.TheVariants.{Append, SetTrue}
 use Rattle.clap.specs.declared.builder.value_parser.ValueParser.TheVariants.{Signed}
 use Rattle.llrp_tree.specs.declared.TheConstants.{MAX_LIMIT}
 use Rattle.llrp_commands.specs.declared.arguments.NetworkCommand.{NetworkCommand}
-use Rattle.llrp_commands.specs.declared.arguments.NetworkCommand.TheVariants.{Sim, Inventory, Loop, Watch, Stop, Ask}
+use Rattle.llrp_commands.specs.declared.arguments.NetworkCommand.TheVariants.{Sim, Inventory, Loop, Watch, Stop, Ask, Access}
+use Rattle.llrp_commands.specs.declared.arguments.access_words.AccessWords.{AccessWords}
 use Rattle.llrp_commands.specs.declared.arguments.ask_words.AskWords.{AskWords}
 use Rattle.llrp_commands.specs.declared.arguments.sim_words.SimWords.{SimWords}
 use Rattle.llrp_commands.specs.declared.arguments.watch_words.WatchWords.{WatchWords}
@@ -204,6 +205,27 @@ file_rule = record (new_rule (codes "FILE")) { required = true }
 abbrev pub ask_app : App
 ask_app = with_rule (with_rule (with_rule (with_rule (with_rule (with_rule (new_app (codes "ask")) host_rule) file_rule) json_rule) (count_rule (codes "timeout"))) (flag_rule (codes "go-on"))) (flag_rule (codes "raw"))
 
+-- the option --tag, which must be given
+abbrev pub tag_rule : Rule
+tag_rule = record (text_option_rule (codes "tag")) { required = true }
+
+-- an option with a text that may be given several times
+abbrev pub texts_rule : Text → Rule
+texts_rule name = record (text_option_rule name) { action = Some Append }
+
+-- a command with a tag, and the operations on it
+abbrev pub with_operations : App → App
+with_operations a = with_rule (with_rule (with_rule (with_rule (with_rule a tag_rule) (texts_rule (codes "read"))) (texts_rule (codes "write"))) (text_option_rule (codes "epc"))) (texts_rule (codes "lock"))
+
+-- a command with all else that is said of operations
+abbrev pub with_waiting : App → App
+with_waiting a =
+    with_rule (with_rule (with_rule (with_rule (with_rule (with_rule a (text_option_rule (codes "password-file"))) (flag_rule (codes "verify"))) (count_rule (codes "antenna"))) (count_rule (codes "settle"))) (count_rule (codes "timeout"))) json_rule
+
+-- access HOST
+abbrev pub access_app : App
+access_app = with_waiting (with_operations (with_rule (new_app (codes "access")) host_rule))
+
 -- the program before its commands, which has a version
 abbrev pub top_app : App
 top_app = let a = new_app (codes "llrp") in record a { top = record a.top { no_binary_name = true; subcommand_required = true; has_version = true } }
@@ -216,9 +238,9 @@ streams_app = with_subcommand (with_subcommand (with_subcommand (with_subcommand
 abbrev pub runs_app : App
 runs_app = with_subcommand (with_subcommand (with_subcommand streams_app sim_app.top) inventory_app.top) loop_app.top
 
--- the program: a command is wanted, and there are show, encode, epc, fields, explain, sim, inventory, loop, watch, stop and ask
+-- the program: a command is wanted, and there are show, encode, epc, fields, explain, sim, inventory, loop, watch, stop, ask and access
 unfoldable pub llrp_app : App
-llrp_app = with_subcommand (with_subcommand (with_subcommand runs_app watch_app.top) stop_app.top) ask_app.top
+llrp_app = with_subcommand (with_subcommand (with_subcommand (with_subcommand runs_app watch_app.top) stop_app.top) ask_app.top) access_app.top
 
 -- the parse of the words succeeds: nothing in them is a fault
 unfoldable pub parses : List Text → Bool
@@ -312,6 +334,14 @@ files_in found = if reads_files (name_in found) then unwrap_or (option_and_then 
 abbrev pub FilesAsked : List Text → List Text → Type 0
 FilesAsked words files = files ≡ (if parses words then files_in (command_in words) else [])
 
+-- the texts of an option that may be given several times, in their order; none where it was not given
+abbrev pub texts_in : Text → Option (Text × List Row) → List Text
+texts_in id found = unwrap_or (option_and_then (λ p. all_of id p.1) found) []
+
+-- those that the words give it
+abbrev pub TextsAsked : Text → List Text → List Text → Type 0
+TextsAsked id words texts = texts ≡ (if parses words then texts_in id (command_in words) else [])
+
 -- The words name a command that the program runs itself.
 pub record AsksElsewhere (words : List Text) : Type 0 where
   pub parsed : parses words ≡ true
@@ -399,6 +429,13 @@ IsStop found words = HasOptionalText (codes "rospec") found words.rospec × HasO
 abbrev pub IsAsk : Option (Text × List Row) → AskWords → Type 0
 IsAsk found words = (word_in (codes "FILE") found ≡ Some words.file.now) × IsFlag (json_in found) words.json × HasOptionalNumber (codes "timeout") found words.timeout × IsFlag (flag_in (codes "go-on") found) words.goes_on × IsFlag (flag_in (codes "raw") found) words.raw
 
+-- these are the options of access
+abbrev pub IsAccess : Option (Text × List Row) → AccessWords → Type 0
+IsAccess found words =
+    (word_in (codes "tag") found ≡ Some words.tag.now) × HasOptionalText (codes "epc") found words.epc × HasOptionalText (codes "password-file") found words.password_file
+    × IsFlag (flag_in (codes "verify") found) words.verify × HasOptionalNumber (codes "antenna") found words.antenna
+    × HasOptionalNumber (codes "settle") found words.settle × HasOptionalNumber (codes "timeout") found words.timeout × IsFlag (json_in found) words.json
+
 -- the command that was found is this one, with these arguments
 abbrev pub IsNetwork : Option (Text × List Row) → NetworkCommand → Type 0
 IsNetwork found (Sim words) = (name_in found ≡ Some (codes "sim")) × IsSim found words
@@ -409,6 +446,7 @@ IsNetwork found (Inventory host port plan timeout limit verbose) =
 IsNetwork found (Loop plan) = (name_in found ≡ Some (codes "loop")) × IsPlan found plan
 IsNetwork found (Watch host words) = (name_in found ≡ Some (codes "watch")) × (word_in (codes "HOST") found ≡ Some host.now) × IsWatch found words
 IsNetwork found (Ask host words) = (name_in found ≡ Some (codes "ask")) × (word_in (codes "HOST") found ≡ Some host.now) × IsAsk found words
+IsNetwork found (Access host words) = (name_in found ≡ Some (codes "access")) × (word_in (codes "HOST") found ≡ Some host.now) × IsAccess found words
 IsNetwork found (Stop host words) = (name_in found ≡ Some (codes "stop")) × (word_in (codes "HOST") found ≡ Some host.now) × IsStop found words
 
 -- a client can be made with this many octets of a message at most

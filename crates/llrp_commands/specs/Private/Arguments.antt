@@ -6,7 +6,7 @@ use Rattle.llrp_tree.specs.declared.TheConstants.{MAX_LIMIT}
 use Rattle.llrp_commands.specs.declared.arguments.Request.{Request}
 use Rattle.llrp_commands.specs.declared.arguments.epc_words.EpcWords.{EpcWords}
 use Rattle.llrp_commands.specs.declared.arguments.Request.TheVariants.{Show, Encode, Epc, Fields, Explain, Network, Help, Usage}
-use Rattle.llrp_commands.specs.Calls.Arguments.{all_in, json_in, name_in, hex_in, flag_in, files_in, HasNumber, HasOptionalNumber, HasOptionalText, IsBounded, IsFlag, IsNetwork}
+use Rattle.llrp_commands.specs.Calls.Arguments.{all_in, json_in, name_in, hex_in, flag_in, files_in, texts_in, HasNumber, HasOptionalNumber, HasOptionalText, IsBounded, IsFlag, IsNetwork}
 
 -- the flag is this one, if it says what a flag may say
 abbrev pub HasFlag : Option Text → Bool → Type 0
@@ -40,6 +40,10 @@ HasLimit (Usage text) = Unit {0}
 -- the files are those of the command that was found
 abbrev pub IsFiles : Option (Text × List Row) → List Text → Type 0
 IsFiles found files = files ≡ files_in found
+
+-- these are the texts of an option of the command that was found
+abbrev pub IsTexts : Text → Option (Text × List Row) → List Text → Type 0
+IsTexts id found texts = texts ≡ texts_in id found
 
 -- what is requested is the command found, with its arguments
 abbrev pub IsRequest : Option (Text × List Row) → Request → Type 0

@@ -64,6 +64,12 @@ HasStop rows = MayHaveLongCount (codes "id") rows × MayHaveNumberWord (codes "t
 abbrev pub HasAsk : List Row → Type 0
 HasAsk rows = HasWord (codes "FILE") rows × HasFlagWord (codes "json") rows × MayHaveNumberWord (codes "timeout") rows × HasFlagWord (codes "go-on") rows × HasFlagWord (codes "raw") rows
 
+-- the tag and the flags of access are there, and its numbers may be
+abbrev pub HasAccess : List Row → Type 0
+HasAccess rows =
+    HasWord (codes "tag") rows × HasFlagWord (codes "verify") rows × MayHaveNumberWord (codes "antenna") rows × MayHaveNumberWord (codes "settle") rows
+    × MayHaveNumberWord (codes "timeout") rows × HasFlagWord (codes "json") rows
+
 -- the flags of epc are there, and its numbers may be
 abbrev pub HasEpc : List Row → Type 0
 HasEpc rows = HasFlagWord (codes "forms") rows × HasFlagWord (codes "list") rows × HasFlagWord (codes "json") rows × MayHaveNumberIn 6 12 (codes "prefix-digits") rows × MayHaveNumberIn 0 7 (codes "filter") rows
@@ -72,7 +78,7 @@ HasEpc rows = HasFlagWord (codes "forms") rows × HasFlagWord (codes "list") row
 abbrev pub HasSim : List Row → Type 0
 HasSim rows = HasNumberWord (codes "PORT") rows × HasFlagWord (codes "all") rows × MayHaveNumberWord (codes "clients") rows × HasFlagWord (codes "ready") rows
 
--- sim, inventory, loop, watch, stop or ask, with what they need
+-- sim, inventory, loop, watch, stop, ask or access, with what they need
 abbrev pub IsNetworkParse : Text → List Row → Type 0
 IsNetworkParse name rows =
     ((name ≡ codes "sim") × HasSim rows)
@@ -82,6 +88,7 @@ IsNetworkParse name rows =
     ⊎ ((name ≡ codes "watch") × HasWord (codes "HOST") rows × HasWatch rows)
     ⊎ ((name ≡ codes "stop") × HasWord (codes "HOST") rows × HasStop rows)
     ⊎ ((name ≡ codes "ask") × HasWord (codes "HOST") rows × HasAsk rows)
+    ⊎ ((name ≡ codes "access") × HasWord (codes "HOST") rows × HasAccess rows)
 
 -- the flags and the limit of a command over a stream
 abbrev pub HasLimitedWords : List Row → Type 0

@@ -5,6 +5,7 @@ ghost use Rattle.clap.specs.Words.{App, app_of, rule_of, with_rule, with_subcomm
 ghost use Rattle.clap.specs.declared.builder.command.Command.TheViews.{out-Command};
 ghost use Rattle.llrp_commands.specs.Calls.Arguments.{all_rule, count_rule, files_rule, flag_rule, hex_app, inventory_app, json_rule, limit_rule, limited_app, llrp_app, loop_app, number_rule, port_rule, runs_app, show_app, stream_app, streams_app, text_option_rule, top_app, with_address, with_files, with_flags, with_hearing, with_numbers, with_plan};
 
+use crate::arguments::access_commands::access_command;
 use crate::arguments::ask_commands::ask_command;
 use crate::arguments::epc_commands::epc_command;
 use crate::arguments::fields_command::fields_command;
@@ -409,5 +410,6 @@ pub(crate) fn llrp_command<'a>(alloc: Global) -> Result<Command<'a>, AllocError>
 {
     let with_first = with_command(runs_command(alloc), watch_command(alloc));
     let with_both = with_command(with_first, stop_command(alloc));
-    with_command(with_both, ask_command(alloc))
+    let with_ask = with_command(with_both, ask_command(alloc));
+    with_command(with_ask, access_command(alloc))
 }

@@ -1,7 +1,7 @@
 use Rattle.std.proofs.Common.{◌∙◌, rules, ◌≡◌, ap, codes, Some}
 use Rattle.clap.specs.Words.{Text, found_of, rows_of}
 use Rattle.clap.proofs.WalkLemmas.{one_text-rows}
-use Rattle.llrp_commands.proofs.ArgumentLemmas.{ask_there, inventory_there, plan_there, reads_flag, sim_there, stop_there, watch_there}
+use Rattle.llrp_commands.proofs.ArgumentLemmas.{access_there, ask_there, inventory_there, plan_there, reads_flag, sim_there, stop_there, watch_there}
 use Rattle.llrp_commands.proofs.CommandLemmas.{has_flag}
 use Rattle.llrp_commands.proofs.arguments.network_named.Goals as goal
 
@@ -60,16 +60,32 @@ returns-then-eq-4-clause-command c =
     let named : c.args.name.now ≡ codes "ask" = search rules in
     (ap (λ (n : Text). Some n) named, c.host-then-eq-4.ensures c.args.name.now, c.ask_words.ensures c.args.name.now)
 
+pub host-requires-then-eq-5 : goal.host-requires-then-eq-5
+host-requires-then-eq-5 c =
+    let named : c.args.name.now ≡ codes "access" = search rules in
+    (access_there c.args.name.now (rows_of (found_of c.args.inner.now)) c.requires named).0
+
+pub access_words-requires : goal.access_words-requires
+access_words-requires c =
+    let named : c.args.name.now ≡ codes "access" = search rules in
+    (access_there c.args.name.now (rows_of (found_of c.args.inner.now)) c.requires named).1
+
+pub returns-then-eq-5-clause-command : goal.returns-then-eq-5-clause-command
+returns-then-eq-5-clause-command c =
+    let named : c.args.name.now ≡ codes "access" = search rules in
+    (ap (λ (n : Text). Some n) named, c.host-then-eq-5.ensures c.args.name.now, c.access_words.ensures c.args.name.now)
+
 pub plan_words-plan-requires : goal.plan_words-plan-requires
 plan_words-plan-requires c =
     let no_sim : c.args.name.now ≡ codes "sim" → ⊥ = search rules in
     let no_watch : c.args.name.now ≡ codes "watch" → ⊥ = search rules in
     let no_stop : c.args.name.now ≡ codes "stop" → ⊥ = search rules in
     let no_ask : c.args.name.now ≡ codes "ask" → ⊥ = search rules in
-    plan_there c.args.name.now (rows_of (found_of c.args.inner.now)) c.requires no_sim no_watch no_stop no_ask
+    let no_access : c.args.name.now ≡ codes "access" → ⊥ = search rules in
+    plan_there c.args.name.now (rows_of (found_of c.args.inner.now)) c.requires no_sim no_watch no_stop no_ask no_access
 
-pub returns-then-eq-5-clause-command : goal.returns-then-eq-5-clause-command
-returns-then-eq-5-clause-command c =
+pub returns-then-eq-6-clause-command : goal.returns-then-eq-6-clause-command
+returns-then-eq-6-clause-command c =
     let named : c.args.name.now ≡ codes "loop" = search rules in
     (ap (λ (n : Text). Some n) named, c.plan_words-plan.ensures c.args.name.now)
 
@@ -79,8 +95,9 @@ host-requires-2 c =
     let no_watch : c.args.name.now ≡ codes "watch" → ⊥ = search rules in
     let no_stop : c.args.name.now ≡ codes "stop" → ⊥ = search rules in
     let no_ask : c.args.name.now ≡ codes "ask" → ⊥ = search rules in
+    let no_access : c.args.name.now ≡ codes "access" → ⊥ = search rules in
     let no_loop : c.args.name.now ≡ codes "loop" → ⊥ = search rules in
-    (inventory_there c.args.name.now (rows_of (found_of c.args.inner.now)) c.requires no_sim no_watch no_stop no_ask no_loop).1
+    (inventory_there c.args.name.now (rows_of (found_of c.args.inner.now)) c.requires no_sim no_watch no_stop no_ask no_access no_loop).1
 
 pub number-requires : goal.number-requires
 number-requires c =
@@ -88,8 +105,9 @@ number-requires c =
     let no_watch : c.args.name.now ≡ codes "watch" → ⊥ = search rules in
     let no_stop : c.args.name.now ≡ codes "stop" → ⊥ = search rules in
     let no_ask : c.args.name.now ≡ codes "ask" → ⊥ = search rules in
+    let no_access : c.args.name.now ≡ codes "access" → ⊥ = search rules in
     let no_loop : c.args.name.now ≡ codes "loop" → ⊥ = search rules in
-    (inventory_there c.args.name.now (rows_of (found_of c.args.inner.now)) c.requires no_sim no_watch no_stop no_ask no_loop).2
+    (inventory_there c.args.name.now (rows_of (found_of c.args.inner.now)) c.requires no_sim no_watch no_stop no_ask no_access no_loop).2
 
 pub returns-clause-command : goal.returns-clause-command
 returns-clause-command c =
@@ -97,8 +115,9 @@ returns-clause-command c =
     let no_watch : c.args.name.now ≡ codes "watch" → ⊥ = search rules in
     let no_stop : c.args.name.now ≡ codes "stop" → ⊥ = search rules in
     let no_ask : c.args.name.now ≡ codes "ask" → ⊥ = search rules in
+    let no_access : c.args.name.now ≡ codes "access" → ⊥ = search rules in
     let no_loop : c.args.name.now ≡ codes "loop" → ⊥ = search rules in
-    let there = inventory_there c.args.name.now (rows_of (found_of c.args.inner.now)) c.requires no_sim no_watch no_stop no_ask no_loop in
+    let there = inventory_there c.args.name.now (rows_of (found_of c.args.inner.now)) c.requires no_sim no_watch no_stop no_ask no_access no_loop in
     let verbose = one_text-rows (found_of c.args.inner.now) (codes "verbose") in (
       ap (λ (n : Text). Some n) there.0,
       c.host-2.ensures c.args.name.now,
@@ -115,5 +134,6 @@ longest-requires c =
     let no_watch : c.args.name.now ≡ codes "watch" → ⊥ = search rules in
     let no_stop : c.args.name.now ≡ codes "stop" → ⊥ = search rules in
     let no_ask : c.args.name.now ≡ codes "ask" → ⊥ = search rules in
+    let no_access : c.args.name.now ≡ codes "access" → ⊥ = search rules in
     let no_loop : c.args.name.now ≡ codes "loop" → ⊥ = search rules in
-    (inventory_there c.args.name.now (rows_of (found_of c.args.inner.now)) c.requires no_sim no_watch no_stop no_ask no_loop).3
+    (inventory_there c.args.name.now (rows_of (found_of c.args.inner.now)) c.requires no_sim no_watch no_stop no_ask no_access no_loop).3
