@@ -1,3 +1,4 @@
+pub mod LineLemmas
 pub mod ResultLemmas
 pub mod VerifiedLemmas
 pub mod WordLemmas

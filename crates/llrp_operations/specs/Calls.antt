@@ -3,6 +3,7 @@ pub mod Changes
 pub mod Course
 pub mod Inventory
 pub mod Laws
+pub mod Lines
 pub mod Messages
 pub mod Operations
 pub mod ResultNames

@@ -1,3 +1,2 @@
 -- Words of private functions: no public contract names one.
-pub mod Results
 pub mod Words

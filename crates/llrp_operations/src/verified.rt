@@ -2,10 +2,9 @@
 
 ghost use Rattle.std.specs.Prelude.{◌≡◌, ◌++◌, IfOk, drop, filter, length};
 ghost use Rattle.std.specs.Str.{bytes_eq};
-ghost use Rattle.llrp_operations.specs.Calls.Changes.{all_sent, is_done, is_verified};
+ghost use Rattle.llrp_operations.specs.Calls.Changes.{IsHeadAt, all_sent, is_done, is_verified};
 ghost use Rattle.llrp_operations.specs.Calls.Operations.{words_octets as the_octets};
 ghost use Rattle.llrp_operations.specs.Calls.Results as results;
-ghost use Rattle.llrp_operations.specs.Private.Results.{IsHeadAt};
 ghost use Rattle.llrp_tree.specs.Tree.{trees};
 
 use crate::operation::Operation;
@@ -28,6 +27,13 @@ pub(crate) fn result_at(nodes: &[Node], place: usize) -> Option<&Node>
         }
     }
     None
+}
+
+/// The result of the operation that comes after so many others, if TagReportData has as many.
+pub fn result_of(tag: &Node, place: usize) -> Option<&Node>
+    ensures { IsHeadAt place (filter results.is_result (trees tag.now.children)) result }
+{
+    result_at(tag.children().as_slice(), place)
 }
 
 /// Whether the tail of a parameter is these words.

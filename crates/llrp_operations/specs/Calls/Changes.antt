@@ -1,9 +1,11 @@
 -- Operations that follow from others, and what a tag says when they are verified.
-use Rattle.std.specs.Prelude.{◌≡◌, ℕ, ◌*◌, ◌==◌, ◌&&◌, min, Bool, true, false, if◌then◌else◌, List, [], ◌∷◌, ◌++◌, length, drop, filter, Option, Some, None}
+use Rattle.std.specs.Prelude.{◌≡◌, ℕ, suc, ◌*◌, ◌==◌, ◌&&◌, min, Bool, true, false, if◌then◌else◌, List, [], ◌∷◌, ◌++◌, length, drop, filter, Option, Some, None}
 use Rattle.std.specs.List.{flat_map}
+use Rattle.std.specs.Borrow.{Bor}
 use Rattle.std.specs.Str.{bytes_eq}
 use Rattle.tag_memory.specs.declared.bank.Bank.TheVariants.{Epc}
 use Rattle.llrp_tree.specs.Tree.{Tree, trees}
+use Rattle.llrp_tree.specs.declared.node.Node.{Node}
 use Rattle.llrp_operations.specs.declared.operation.Operation.{Operation}
 use Rattle.llrp_operations.specs.declared.operation.Operation.TheVariants.{Read, Write, Lock}
 use Rattle.llrp_operations.specs.Calls.Operations.{words_octets}
@@ -26,6 +28,12 @@ abbrev pub IsEpcWrite : (old epc : List ℕ) → Operation → Type 0
 IsEpcWrite old epc (Read _ _ _) = ⊥
 IsEpcWrite old epc (Write bank pointer words) = (bank ≡ Epc) × (pointer ≡ epc_pointer old epc) × (words_octets words.items ≡ epc_octets old epc)
 IsEpcWrite old epc (Lock _ _) = ⊥
+
+-- ---- the result that comes after so many others, if there is one
+
+abbrev pub IsHeadAt : ℕ → List Tree → Option (Bor Node) → Type 0
+IsHeadAt place ts None = drop place ts ≡ []
+IsHeadAt place ts (Some t) = drop place ts ≡ t.now ∷ drop (suc place) ts
 
 -- ---- verifying
 
