@@ -4,9 +4,9 @@ _llrp() {
     COMPREPLY=()
     case ${COMP_WORDS[COMP_CWORD - 1]} in
         # a file, which readline completes where nothing is found here
-        *'<' | *'>' | --rospec | --prefixes | --save | --access) return ;;
+        *'<' | *'>' | --rospec | --prefixes | --save | --access | --password-file) return ;;
         # a number, a text, or a list
-        --limit | --antennas | --every | --polls | --reports | --timeout | --id | --keepalive | --again | --for | --name | --power | --bind | --clients | --prefix-digits | --filter)
+        --limit | --antennas | --every | --polls | --reports | --timeout | --id | --keepalive | --again | --for | --name | --power | --bind | --clients | --prefix-digits | --filter | --tag | --read | --write | --epc | --lock | --antenna | --settle)
             compopt +o default
             return
             ;;
@@ -16,7 +16,7 @@ _llrp() {
     elif [ "${COMP_WORDS[COMP_CWORD - 1]}" = --names ]; then
         words='profile standard'
     elif [ "$COMP_CWORD" -eq 1 ]; then
-        words='show encode epc fields explain sim inventory loop watch stop ask help --help --version'
+        words='show encode epc fields explain sim inventory loop watch stop ask access help --help --version'
     else
         case ${COMP_WORDS[1]} in
             show) words='--hex --all --json --names --limit --help' ;;
@@ -26,11 +26,12 @@ _llrp() {
             watch) words='--rospec --id --every --keepalive --again --text --antennas --limit --save --verbose --for --name --power --messages --access --help' ;;
             stop) words='--rospec --id --timeout --help' ;;
             ask) words='--json --timeout --go-on --raw --help' ;;
+            access) words='--tag --read --write --epc --lock --password-file --verify --antenna --settle --timeout --json --help' ;;
             sim) words='--all --bind --clients --ready --help' ;;
             fields) words='--all --help' ;;
             explain) words='--hex --all --limit --help' ;;
             epc) words='--forms --list --json --to --prefix-digits --filter --prefixes --help' ;;
-            help) words='show encode epc fields explain sim inventory loop watch stop ask' ;;
+            help) words='show encode epc fields explain sim inventory loop watch stop ask access' ;;
         esac
     fi
     mapfile -t COMPREPLY < <(compgen -W "$words" -- "$word")

@@ -125,7 +125,7 @@ def checks(program):
     """Yields whether the manual page, README.md and each completion have exactly the commands and flags of the program."""
     flags = flags_of(program)
     commands = set(flags) - {""}
-    yield "eleven commands", len(commands) == 11
+    yield "twelve commands", len(commands) == 12
     for shell, name in (("bash", "llrp.bash"), ("zsh", "_llrp"), ("fish", "llrp.fish")):
         done = subprocess.run([shell, "-n", f"completions/{name}"], cwd=TOP, capture_output=True, timeout=60)
         yield f"{shell} -n", (done.returncode, done.stderr) == (0, b"")
@@ -196,7 +196,7 @@ def checks_of_bounds(program):
         for flag, value in values_in(output(program, command, "--help")).items():
             done = subprocess.run([program, command, flag, "4294967296"], capture_output=True, text=True, timeout=60)
             bounds = re.search(r"is not in (\d+)\.\.=(\d+)", done.stderr)
-            if value not in ("ADDRESS", "DBM", "FILE", "FORM", "LIST", "SET", "TEXT") and (flag, bounds and bounds.groups()) not in found:
+            if value not in ("ADDRESS", "DBM", "FILE", "FORM", "LIST", "SET", "TAG", "TEXT", "URI") and (flag, bounds and bounds.groups()) not in found:
                 found.add((flag, bounds and bounds.groups()))
                 low, high = map(with_commas, bounds.groups())
                 yield f"the bounds of {flag} in the manual page", f"from {low} to {high}" in entries[flag.removeprefix("-")]
@@ -255,7 +255,7 @@ def checks_of_statuses():
     readme = " ".join(text_of("README.md").split()).split("The exit status is ")[1].split(" An error is")[0]
     told = {it: words.rstrip(",") for it, words in statuses_of(readme).items()}
     yield f"the statuses of README.md: {told}", told == program and f"({max(scripts)} if `./llrp`" in readme
-    sources = "".join(text_of(f"crates/{it}") for it in ("llrp/src/network.rt", "llrp/src/plan.rt", "llrp_commands/src/command.rt"))
+    sources = "".join(text_of(f"crates/{it}") for it in ("llrp/src/network.rt", "llrp/src/plan.rt", "llrp/src/access_command.rt", "llrp_commands/src/command.rt"))
     constants = {int(it) for it in re.findall(r"(?m)^(?:pub )?const \w+: u8 = (\d+);", sources)}
     yield f"the statuses of the sources: {constants}", constants and constants <= set(program)
     yield "the status of the script", f"exit $((status > 128 ? status : {max(scripts)}))" in text_of("llrp")
@@ -270,7 +270,7 @@ def examples_of(program):
     for text in texts:
         for command, wanted in re.findall(r"(?m)^\$ (.*)\n((?:(?!\$ ).*\n?)*)", text.rstrip("\n") + "\n"):
             # (what writes a file is there for a command over a network)
-            if not re.search(r"llrp (sim|inventory|watch|stop|ask)\b| > ", command):
+            if not re.search(r"llrp (sim|inventory|watch|stop|ask|access)\b| > ", command):
                 yield command, wanted
 
 

@@ -9,6 +9,9 @@ ghost use Rattle.llrp_stream.specs.Calls.Device.{CanWrite};
 ghost use Rattle.llrp_commands.specs.Calls.Arguments.{IsBounded};
 
 mod access;
+mod access_command;
+mod access_errand;
+mod access_talk;
 mod address;
 mod ask;
 mod both_ends;
@@ -74,6 +77,7 @@ fn plan_in<'a>(command: &NetworkCommand<'a>) -> Option<PlanWords<'a>> {
     match command {
         NetworkCommand::Sim { .. } | NetworkCommand::Watch { .. } => None,
         NetworkCommand::Stop { .. } | NetworkCommand::Ask { .. } => None,
+        NetworkCommand::Access { .. } => None,
         NetworkCommand::Inventory { plan, .. } | NetworkCommand::Loop { plan } => Some(*plan),
     }
 }
@@ -105,8 +109,12 @@ fn refuse_words<E: Sink>(said: &[u8], errors: &mut E) -> Result<u8, ToolErr>
     Ok(USAGE)
 }
 
-/// Runs a command over sockets, and returns its exit status.
-fn run_network(rt: &HostRuntime, command: NetworkCommand<'_>) -> Result<u8, ToolErr>
+/// Runs a command over sockets, which these words ask for, and returns its exit status.
+fn run_network(
+    rt: &HostRuntime,
+    command: NetworkCommand<'_>,
+    said: &[String],
+) -> Result<u8, ToolErr>
     requires { IsBounded command }
 {
     let alloc = rt.alloc();
@@ -174,6 +182,13 @@ fn run_network(rt: &HostRuntime, command: NetworkCommand<'_>) -> Result<u8, Tool
             None => refuse_words(NO_ADDRESS, &mut errors),
             Some(reader) => ask::ask(rt, reader, words),
         },
+        NetworkCommand::Access { host, words } => match address_of(host) {
+            None => refuse_words(NO_ADDRESS, &mut errors),
+            Some(reader) => {
+                let texts = access_command::operation_texts(alloc, said)?;
+                access_command::access(rt, reader, words, &texts)
+            }
+        },
     }
 }
 
@@ -202,7 +217,7 @@ fn run(rt: &HostRuntime) -> Result<u8, ToolErr> {
         return run_files(rt, words.as_slice(), files.as_slice());
     }
     match network_command(alloc, words.as_slice())? {
-        Some(command) => run_network(rt, command),
+        Some(command) => run_network(rt, command, words.as_slice()),
         None => {
             say_waiting(rt, words.as_slice())?;
             let mut input = Noticing::new(Input::new(rt.stdin()));

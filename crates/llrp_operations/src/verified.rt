@@ -2,7 +2,7 @@
 
 ghost use Rattle.std.specs.Prelude.{◌≡◌, ◌++◌, IfOk, drop, filter, length};
 ghost use Rattle.std.specs.Str.{bytes_eq};
-ghost use Rattle.llrp_operations.specs.Calls.Changes.{IsHeadAt, all_sent, is_done, is_verified};
+ghost use Rattle.llrp_operations.specs.Calls.Changes.{IsHeadAt, is_done, is_verified};
 ghost use Rattle.llrp_operations.specs.Calls.Operations.{words_octets as the_octets};
 ghost use Rattle.llrp_operations.specs.Calls.Results as results;
 ghost use Rattle.llrp_tree.specs.Tree.{trees};
@@ -75,8 +75,7 @@ pub fn is_done(
     verifies: bool,
     tag: &Node,
 ) -> Result<bool, SpecErr>
-    requires { sent.now ≡ all_sent verifies asked.now }
-    ensures { IfOk result (λ is. is ≡ is_done verifies id asked.now tag.now) }
+    ensures { IfOk result (λ is. is ≡ is_done verifies id asked.now sent.now tag.now) }
 {
     if !has_succeeded(id, sent, tag) {
         return Ok(false);

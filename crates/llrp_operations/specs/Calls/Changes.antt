@@ -1,5 +1,5 @@
 -- Operations that follow from others, and what a tag says when they are verified.
-use Rattle.std.specs.Prelude.{◌≡◌, ℕ, suc, ◌*◌, ◌==◌, ◌&&◌, min, Bool, true, false, if◌then◌else◌, List, [], ◌∷◌, ◌++◌, length, drop, filter, Option, Some, None}
+use Rattle.std.specs.Prelude.{◌≡◌, ℕ, suc, ◌*◌, ◌==◌, ◌&&◌, min, not, ◌||◌, Bool, true, false, if◌then◌else◌, List, [], ◌∷◌, ◌++◌, length, drop, filter, Option, Some, None}
 use Rattle.std.specs.List.{flat_map}
 use Rattle.std.specs.Borrow.{Bor}
 use Rattle.std.specs.Str.{bytes_eq}
@@ -73,7 +73,6 @@ abbrev pub all_sent : (verifies : Bool) → List Operation → List Operation
 all_sent false os = os
 all_sent true os = os ++ checks os
 
--- all that was asked for was done: the operations, and where it is verified, their checks, whose words are those that were written
-abbrev pub is_done : (verifies : Bool) → ℕ → List Operation → Tree → Bool
-is_done false id os tag = has_succeeded id os tag
-is_done true id os tag = has_succeeded id (os ++ checks os) tag && is_verified os tag
+-- all that was asked for was done: what was sent, and where it verifies, the words that are read back are those that were written
+abbrev pub is_done : (verifies : Bool) → ℕ → (asked sent : List Operation) → Tree → Bool
+is_done verifies id asked sent tag = has_succeeded id sent tag && (not verifies || is_verified asked tag)
