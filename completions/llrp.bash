@@ -15,12 +15,14 @@ _llrp() {
         words='tag pure element link hex key'
     elif [ "${COMP_WORDS[COMP_CWORD - 1]}" = --names ]; then
         words='profile standard'
+    elif [ "${COMP_WORDS[COMP_CWORD - 1]}" = --schemes ]; then
+        words=all
     elif [ "$COMP_CWORD" -eq 1 ]; then
         words='show encode epc fields explain sim inventory loop watch stop ask access help --help --version'
     else
         case ${COMP_WORDS[1]} in
-            show) words='--hex --all --json --names --limit --help' ;;
-            encode) words='--hex --all --json --limit --help' ;;
+            show) words='--hex --all --json --names --keys --schemes --limit --help' ;;
+            encode) words='--hex --all --json --keys --schemes --limit --help' ;;
             inventory) words='--rospec --every --polls --reports --check --clean --json --all --timeout --limit --verbose --help' ;;
             loop) words='--rospec --every --polls --reports --check --clean --json --all --help' ;;
             watch) words='--rospec --id --every --keepalive --again --text --antennas --limit --save --verbose --for --name --power --messages --access --help' ;;

@@ -50,6 +50,9 @@ PROMISES = {
                " tag_forms::TextList::take tag_forms::TextList::end tag_forms::Prefixes::add tag_forms::Prefixes::company_digits"
                " tag_forms::laws::one_text_in_form tag_forms::laws::one_word_in_form tag_forms::laws::one_fault_in_form"
                " llrp_keys::run_forms llrp_keys::run_answer llrp_keys::run_list llrp_keys::read_prefixes llrp_keys::named_key_of"
+               " llrp_labels::label_text llrp_labels::plain_text llrp_labels::list_labelled llrp_labels::run_show_labelled"
+               " llrp_labels::read_plain llrp_labels::laws::one_labelled_line llrp_labels::laws::keys_follow_lines"
+               " llrp_labels::laws::labels_come_off"
                " llrp_c::llrp_forms llrp_c::llrp_word_of_key",
 }
 

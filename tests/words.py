@@ -37,8 +37,8 @@ words=(llrp {command} '')
 CURRENT=$#words
 source completions/_llrp
 """
-# The words that flags with such a value take: the forms of a word's text, and the sets of names.
-CHOICES = {"FORM": "tag pure element link hex key", "SET": "profile standard"}
+# The words that flags with such a value take: the forms of a word's text, and the sets of names and of schemes.
+CHOICES = {"FORM": "tag pure element link hex key", "SET": "profile standard", "SCHEMES": "all"}
 # What each shell says of the program's completion, once it has read the file as it does where that is installed.
 BOUND = {
     "bash": ("source completions/llrp.bash; complete -p llrp", "complete -o default -F _llrp llrp"),

@@ -21,7 +21,7 @@ use Rattle.clap.specs.Walk.{one_of, row_text, plain_word, after_flag, long_or_ot
 use Rattle.clap.proofs.ValueTestLemmas.{accepts-Accepts}
 use Rattle.llrp_tree.specs.declared.TheConstants.{MAX_LIMIT}
 use Rattle.llrp_commands.specs.Private.Parse.{HasFlagWord, HasLimitWord, HasLimitedWords, HasNumberIn, HasNumberWord, HasStreamWords, HasWord, IsFound, IsParse, MayHaveLongCount, MayHaveNumberIn, MayHaveNumberWord}
-use Rattle.llrp_commands.specs.Calls.Arguments.{least_longest, long_count_rule, longest_rule, stop_app, watch_app, command_in, files_rule, limited_app, show_app, stream_app, with_files, hex_rule, json_rule, limit_rule, count_rule, flag_rule, host_rule, inventory_app, llrp_app, loop_app, number_rule, port_rule, epc_app, filter_rule, prefix_digits_rule, text_option_rule, text_rule, top_app, all_rule, sim_app, access_app, tag_rule, texts_rule, ask_app, file_rule, fields_app, name_rule}
+use Rattle.llrp_commands.specs.Calls.Arguments.{least_longest, long_count_rule, longest_rule, stop_app, watch_app, command_in, files_rule, limited_app, show_app, stream_app, with_files, hex_rule, json_rule, limit_rule, count_rule, flag_rule, host_rule, inventory_app, llrp_app, loop_app, number_rule, port_rule, epc_app, filter_rule, prefix_digits_rule, text_option_rule, text_rule, top_app, all_rule, sim_app, access_app, tag_rule, texts_rule, ask_app, file_rule, fields_app, name_rule, encode_app}
 use Rattle.llrp_commands.proofs.ReadRows.{AllFound, AllUsesPass, HasRead, IsAmong, LevelPasses, both, append_passes, subcommand_there, flag_passes, has_read, help_passes, level_passes, set_passes, uses_pass}
 
 -- ---- a walk without a fault does not stop at help
@@ -290,29 +290,35 @@ has_stream_words more s e uses found words pass =
 abbrev the_names : Rule
 the_names = with_index 1 (filled (text_option_rule (codes "names")))
 
+abbrev the_keys : Rule
+the_keys = with_index 1 (filled (flag_rule (codes "keys")))
+
+abbrev the_schemes : Rule
+the_schemes = with_index 1 (filled (text_option_rule (codes "schemes")))
+
 -- show, which has --names too, and files
 show_gives : Gives (built_sub (with_files show_app).top)
 show_gives name words helpless met pass =
-    let c : List Rule = stream_rules (the_names ∷ the_files ∷ the_help 2 ∷ []) in
+    let c : List Rule = stream_rules (the_names ∷ the_keys ∷ the_schemes ∷ the_files ∷ the_help 2 ∷ []) in
     let uses : AllUsesPass c c = (
       flag_passes c the_hex refl refl (omega arith),
       (
         flag_passes c the_all refl refl (omega arith),
-        (set_passes c the_limit refl refl refl, (flag_passes c the_json refl refl (omega arith), (set_passes c the_names refl refl refl, (append_passes c the_files refl refl refl, (help_passes c (the_help 2) refl, tt))))),
+        (set_passes c the_limit refl refl refl, (flag_passes c the_json refl refl (omega arith), (set_passes c the_names refl refl refl, (flag_passes c the_keys refl refl (omega arith), (set_passes c the_schemes refl refl refl, (append_passes c the_files refl refl refl, (help_passes c (the_help 2) refl, tt))))))),
       ),
     ) in
-    let found : AllFound c c = (refl, (refl, (refl, (refl, (refl, (refl, (refl, tt))))))) in
-    inl (refl, has_stream_words (the_names ∷ the_files ∷ the_help 2 ∷ []) (built_sub (with_files show_app).top) refl uses found words pass)
+    let found : AllFound c c = (refl, (refl, (refl, (refl, (refl, (refl, (refl, (refl, (refl, tt))))))))) in
+    inl (refl, has_stream_words (the_names ∷ the_keys ∷ the_schemes ∷ the_files ∷ the_help 2 ∷ []) (built_sub (with_files show_app).top) refl uses found words pass)
 
-encode_gives : Gives (built_sub (with_files (stream_app (codes "encode"))).top)
+encode_gives : Gives (built_sub (with_files encode_app).top)
 encode_gives name words helpless met pass =
-    let c : List Rule = stream_rules (the_files ∷ the_help 2 ∷ []) in
+    let c : List Rule = stream_rules (the_keys ∷ the_schemes ∷ the_files ∷ the_help 2 ∷ []) in
     let uses : AllUsesPass c c = (
       flag_passes c the_hex refl refl (omega arith),
-      (flag_passes c the_all refl refl (omega arith), (set_passes c the_limit refl refl refl, (flag_passes c the_json refl refl (omega arith), (append_passes c the_files refl refl refl, (help_passes c (the_help 2) refl, tt))))),
+      (flag_passes c the_all refl refl (omega arith), (set_passes c the_limit refl refl refl, (flag_passes c the_json refl refl (omega arith), (flag_passes c the_keys refl refl (omega arith), (set_passes c the_schemes refl refl refl, (append_passes c the_files refl refl refl, (help_passes c (the_help 2) refl, tt))))))),
     ) in
-    let found : AllFound c c = (refl, (refl, (refl, (refl, (refl, (refl, tt)))))) in
-    inr (inl (refl, has_stream_words (the_files ∷ the_help 2 ∷ []) (built_sub (with_files (stream_app (codes "encode"))).top) refl uses found words pass))
+    let found : AllFound c c = (refl, (refl, (refl, (refl, (refl, (refl, (refl, (refl, tt)))))))) in
+    inr (inl (refl, has_stream_words (the_keys ∷ the_schemes ∷ the_files ∷ the_help 2 ∷ []) (built_sub (with_files encode_app).top) refl uses found words pass))
 
 abbrev the_epc_flag : Text → Rule
 the_epc_flag name = with_index 2 (filled (flag_rule name))

@@ -6,3 +6,4 @@ pub mod EpcLemmas
 pub mod ExplainLemmas
 pub mod GivenArguments
 pub mod ReadRows
+pub mod LabelLemmas

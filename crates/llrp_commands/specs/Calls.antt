@@ -7,3 +7,4 @@ pub mod Epc
 pub mod Explain
 pub mod Fields
 pub mod ShowNames
+pub mod Labelled

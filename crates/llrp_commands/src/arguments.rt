@@ -17,6 +17,8 @@ mod epc_commands;
 mod epc_words;
 mod fields_command;
 mod help;
+mod label_commands;
+mod label_words;
 mod sim_commands;
 mod sim_words;
 mod watch_commands;
@@ -32,6 +34,8 @@ use clap::error::ErrorKind;
 use commands::llrp_command;
 pub(crate) use epc_words::EpcWords;
 use epc_words::epc_words;
+pub(crate) use label_words::LabelWords;
+use label_words::label_words;
 pub use sim_words::SimWords;
 use sim_words::sim_words;
 use std::alloc::{AllocError, Global};
@@ -115,6 +119,7 @@ pub(crate) enum Request<'a> {
         all: bool,
         json: bool,
         names: Option<&'a str>,
+        labels: LabelWords<'a>,
         limit: u32,
     },
     /// Writes the bytes of a listing, or of lines of JSON, in the profile or in the whole standard, or
@@ -123,6 +128,7 @@ pub(crate) enum Request<'a> {
         hex: bool,
         all: bool,
         json: bool,
+        labels: LabelWords<'a>,
         limit: u32,
     },
     /// Prints the text of a word's digits, or the digits of a word's text, or texts in other forms.
@@ -265,6 +271,7 @@ fn request_named<'a>(name: &str, inner: &ArgMatches<'a>) -> Request<'a>
             all: inner.get_flag("all"),
             json: inner.get_flag("json"),
             names: optional_text(inner, "names"),
+            labels: label_words(inner),
             limit: limit(inner),
         }
     } else if name == "encode" {
@@ -272,6 +279,7 @@ fn request_named<'a>(name: &str, inner: &ArgMatches<'a>) -> Request<'a>
             hex: inner.get_flag("hex"),
             all: inner.get_flag("all"),
             json: inner.get_flag("json"),
+            labels: label_words(inner),
             limit: limit(inner),
         }
     } else if name == "fields" {

@@ -14,6 +14,7 @@ ghost use Rattle.llrp_commands.specs.Calls.Arguments.{AsksElsewhere, parses};
 ghost use Rattle.llrp_commands.specs.Calls.Epc.{LeavesFileIfAsked, RunsEpcIfAsked};
 ghost use Rattle.llrp_commands.specs.Calls.Explain.{ExplainsIfAsked};
 ghost use Rattle.llrp_commands.specs.Calls.Fields.{FieldsIfAsked};
+ghost use Rattle.llrp_commands.specs.Calls.Labelled.{LabelsEncodedIfAsked, LabelsShownIfAsked};
 ghost use Rattle.llrp_commands.specs.Calls.ShowNames.{NamesIfAsked};
 ghost use Rattle.llrp_stream.specs.Calls.Device.{CanWrite};
 
@@ -22,6 +23,7 @@ use crate::encode_json::{answer_lines, encode_json};
 use crate::epc::{answer_epc, epc, mistake_of};
 use crate::explain::explain;
 use crate::fields::{answer_fields, fields};
+use crate::labelled::{encode_with_labels, goes_without_labels, show_with_labels};
 use crate::show_names::show_by_names;
 use itoa::Buffer;
 use llrp_json::{list_stream_json, run_show_json};
@@ -310,7 +312,7 @@ fn encode_digits<R: Source, W: Sink>(
 }
 
 /// The command `encode`.
-fn encode<R: Source, W: Sink>(
+pub(crate) fn encode<R: Source, W: Sink>(
     alloc: Global,
     hex: bool,
     set: KindSet,
@@ -406,6 +408,12 @@ pub fn run_command<S: AsStr, R: Source, W: Sink, E: Sink>(
     ensures names { NamesIfAsked (map S.text words.entry.now) (R.log r.old) (R.log r.new)
         (W.log w.old) (W.log w.new) (E.log e.old) (E.log e.new) result }
 
+    // With --keys or --schemes the listing has labels.
+    ensures labels_shown { LabelsShownIfAsked (map S.text words.entry.now) (R.log r.old) (R.log r.new)
+        (W.log w.old) (W.log w.new) (E.log e.old) (E.log e.new) result }
+    ensures labels_encoded { LabelsEncodedIfAsked (map S.text words.entry.now) (R.log r.old) (R.log r.new)
+        (W.log w.old) (W.log w.new) (E.log e.old) (E.log e.new) result }
+
     // If they ask for epc, it does what epc does with the text.
     ensures epc { PrintsEpcIfAsked (map S.text words.entry.now) (R.log r.old) (R.log r.new)
         (W.log w.old) (W.log w.new) (E.log e.old) (E.log e.new) result }
@@ -441,20 +449,34 @@ pub fn run_command<S: AsStr, R: Source, W: Sink, E: Sink>(
             all,
             json,
             names,
+            labels,
             limit,
-        } => match names {
-            Some(word) => show_by_names(alloc, json, word, hex, set_of(all), limit, r, w, e),
-            None => {
-                let outcome = show(alloc, json, hex, set_of(all), limit, r, w);
-                answer(verdict_status(outcome), e)
+        } => {
+            if labels.asks() {
+                let other = goes_without_labels(json, names);
+                return show_with_labels(alloc, other, labels, hex, set_of(all), limit, r, w, e);
             }
-        },
+            match names {
+                Some(word) => show_by_names(alloc, json, word, hex, set_of(all), limit, r, w, e),
+                None => {
+                    let outcome = show(alloc, json, hex, set_of(all), limit, r, w);
+                    answer(verdict_status(outcome), e)
+                }
+            }
+        }
         Request::Encode {
             hex,
             all,
             json,
+            labels,
             limit,
-        } => encode_in_form(alloc, json, hex, set_of(all), limit, r, w, e),
+        } => {
+            if labels.asks() {
+                encode_with_labels(alloc, json, labels, hex, set_of(all), limit, r, w, e)
+            } else {
+                encode_in_form(alloc, json, hex, set_of(all), limit, r, w, e)
+            }
+        }
         Request::Epc(words) => match words.prefixes {
             Some(_) => Ok(USAGE),
             None => {

@@ -18,6 +18,7 @@ mod epc;
 mod epc_table;
 mod explain;
 mod fields;
+mod labelled;
 pub mod laws;
 mod show_names;
 

@@ -54,9 +54,17 @@ stream_app name = with_rule (limited_app name) json_rule
 abbrev pub text_option_rule : Text → Rule
 text_option_rule name = record (new_rule name) { long = Some name; value_names = 1 }
 
+-- a command with the labels of a listing: the flag --keys and the option --schemes
+abbrev pub with_labels : App → App
+with_labels a = with_rule (with_rule a (flag_rule (codes "keys"))) (text_option_rule (codes "schemes"))
+
 -- show, which has the option --names too
 abbrev pub show_app : App
-show_app = with_rule (stream_app (codes "show")) (text_option_rule (codes "names"))
+show_app = with_labels (with_rule (stream_app (codes "show")) (text_option_rule (codes "names")))
+
+-- encode
+abbrev pub encode_app : App
+encode_app = with_labels (stream_app (codes "encode"))
 
 -- the argument FILE, of which there may be several
 abbrev pub files_rule : Rule
@@ -232,7 +240,7 @@ top_app = let a = new_app (codes "llrp") in record a { top = record a.top { no_b
 
 -- the program before the commands that it runs itself
 abbrev pub streams_app : App
-streams_app = with_subcommand (with_subcommand (with_subcommand (with_subcommand (with_subcommand top_app (with_files show_app).top) (with_files (stream_app (codes "encode"))).top) epc_app.top) fields_app.top) (with_files (limited_app (codes "explain"))).top
+streams_app = with_subcommand (with_subcommand (with_subcommand (with_subcommand (with_subcommand top_app (with_files show_app).top) (with_files encode_app).top) epc_app.top) fields_app.top) (with_files (limited_app (codes "explain"))).top
 
 -- the program before the commands that last
 abbrev pub runs_app : App
@@ -297,6 +305,14 @@ pub record AsksExplain (words : List Text) (hex all : Bool) (limit : ℕ) : Type
   pub flag : IsFlag (hex_in (command_in words)) hex
   pub kinds : IsFlag (all_in (command_in words)) all
   pub bound : HasNumber (codes "limit") (command_in words) limit
+
+-- The words have --keys or not, and this word of --schemes or none.
+abbrev pub AsksLabels : List Text → Bool → Option Text → Type 0
+AsksLabels words keys schemes = IsFlag (flag_in (codes "keys") (command_in words)) keys × (word_in (codes "schemes") (command_in words) ≡ schemes)
+
+-- they ask for no labels
+abbrev pub AsksNoLabels : List Text → Type 0
+AsksNoLabels words = AsksLabels words false None
 
 -- if the words are parsed and name show, they ask for it with each flag or without, and with one limit
 abbrev pub AsksShowIfNamed : List Text → Type 0

@@ -5,7 +5,7 @@ use Rattle.llrp_schema.specs.declared.kinds.KindSet.{KindSet}
 use Rattle.llrp_listing.specs.declared.outcome.ToolErr.{ToolErr}
 use Rattle.llrp_stream.specs.Device.{SourceLog, SinkLog}
 use Rattle.llrp_json_read.specs.declared.run.LinesErr.{LinesErr}
-use Rattle.llrp_commands.specs.Calls.Arguments.{Asks}
+use Rattle.llrp_commands.specs.Calls.Arguments.{Asks, AsksNoLabels}
 use Rattle.llrp_commands.specs.Calls.Command.{Answers, DoesEncode, IsNotBegun, fine_status, set_of}
 use Rattle.llrp_commands.specs.Calls.EncodeJson.{AnswersLines, DoesEncodeJson}
 
@@ -18,7 +18,7 @@ EncodedTo true hex p limit r0 r1 w0 w1 e0 e1 answer = (outcome : Result (Unit {0
 abbrev pub RanEncode : Bool → Bool → KindSet → (limit : ℕ) → SourceLog → SourceLog → SinkLog → SinkLog → SinkLog → SinkLog → Result ℕ ToolErr → Type 0
 RanEncode json hex p limit r0 r1 w0 w1 e0 e1 answer = IsNotBegun r0 r1 w0 w1 e0 e1 answer ⊎ EncodedTo json hex p limit r0 r1 w0 w1 e0 e1 answer
 
--- if the words ask for encode, it ran so
+-- if the words ask for encode without labels, it ran so
 abbrev pub EncodesIfAsked : List Text → SourceLog → SourceLog → SinkLog → SinkLog → SinkLog → SinkLog → Result ℕ ToolErr → Type 0
 EncodesIfAsked words r0 r1 w0 w1 e0 e1 answer =
-    (hex all json : Bool) (limit : ℕ) → Asks words (codes "encode") hex all json limit → RanEncode json hex (set_of all) limit r0 r1 w0 w1 e0 e1 answer
+    (hex all json : Bool) (limit : ℕ) → Asks words (codes "encode") hex all json limit → AsksNoLabels words → RanEncode json hex (set_of all) limit r0 r1 w0 w1 e0 e1 answer

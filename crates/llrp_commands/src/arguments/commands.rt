@@ -3,13 +3,14 @@
 ghost use Rattle.std.specs.Prelude.{◌≡◌, IfOk, codes, false};
 ghost use Rattle.clap.specs.Words.{App, app_of, rule_of, with_rule, with_subcommand};
 ghost use Rattle.clap.specs.declared.builder.command.Command.TheViews.{out-Command};
-ghost use Rattle.llrp_commands.specs.Calls.Arguments.{all_rule, count_rule, files_rule, flag_rule, hex_app, inventory_app, json_rule, limit_rule, limited_app, llrp_app, loop_app, number_rule, port_rule, runs_app, show_app, stream_app, streams_app, text_option_rule, top_app, with_address, with_files, with_flags, with_hearing, with_numbers, with_plan};
+ghost use Rattle.llrp_commands.specs.Calls.Arguments.{all_rule, count_rule, files_rule, flag_rule, hex_app, inventory_app, json_rule, limit_rule, limited_app, llrp_app, loop_app, number_rule, port_rule, runs_app, encode_app, show_app, stream_app, streams_app, text_option_rule, top_app, with_address, with_files, with_flags, with_hearing, with_numbers, with_plan};
 
 use crate::arguments::access_commands::access_command;
 use crate::arguments::ask_commands::ask_command;
 use crate::arguments::epc_commands::epc_command;
 use crate::arguments::fields_command::fields_command;
 use crate::arguments::help::{ENCODE_HELP, EXPLAIN_HELP, INVENTORY_HELP, LOOP_HELP, SHOW_HELP};
+use crate::arguments::label_commands::with_labels;
 use crate::arguments::sim_commands::sim_command;
 use crate::arguments::watch_commands::{longest_option, stop_command, watch_command};
 use clap::{Arg, ArgAction, Command, value_parser};
@@ -298,13 +299,15 @@ fn show_command<'a>(alloc: Global) -> Result<Command<'a>, AllocError>
         "Write lines of JSON in place of the listing",
         SHOW_HELP,
     );
+    let keys = "Print the key of each EPC after it, as gtin 80614141123458 6789";
     let named = with_argument(command, text_option(alloc, "names", "SET", names));
-    with_argument(named, files_argument(alloc))
+    let labelled = with_labels(alloc, named, keys);
+    with_argument(labelled, files_argument(alloc))
 }
 
 /// The command `encode`.
 fn encode_command<'a>(alloc: Global) -> Result<Command<'a>, AllocError>
-    ensures app { IfOk result (λ c. app_of c ≡ with_files (stream_app (codes "encode"))) }
+    ensures app { IfOk result (λ c. app_of c ≡ with_files encode_app) }
     ensures local { IfOk result (λ c. (out-Command c).has_globals ≡ false) }
 {
     let command = stream_command(
@@ -315,7 +318,9 @@ fn encode_command<'a>(alloc: Global) -> Result<Command<'a>, AllocError>
         "Read lines of JSON in place of a listing",
         ENCODE_HELP,
     );
-    with_argument(command, files_argument(alloc))
+    let keys = "Read lines that have the key of an EPC after it, and compare it";
+    let labelled = with_labels(alloc, command, keys);
+    with_argument(labelled, files_argument(alloc))
 }
 
 /// The command `explain`.

@@ -15,6 +15,8 @@ docs/tables.md leaves out of its set; with --all they are those of the whole sta
 is 0 if all frames are messages and the last one is whole, and 1 if not. With --json each frame is one
 line of JSON in place of its lines, as docs/json.md says; with --names standard its fields have the
 names that they have with --all, and with --names profile, or without it, those of their own set.
+With --keys a tab and the key of an EPC follow it, and with --schemes all words of GIAI-96 and GSRNP-96
+have their tag URIs; both read all of the input first, and go with no --json.
 Of several files the greatest status counts; that of a file that cannot be read is 3.
 
 Example:
@@ -31,7 +33,9 @@ listing with status 1, and is named on standard error with the reason, which doc
 so is a message of more octets than --limit, where N is 10 to 1,048,576, or a parameter more than
 16 levels deep. The names are those of the set of docs/tables.md, or with --all those of the whole
 standard. With --json it reads lines as show --json writes them, with the members of an object in any
-order; docs/json.md has the reasons. Of several files the greatest status counts, as for show.
+order; docs/json.md has the reasons. With --keys and --schemes all it reads all of a listing that show
+writes with them, and refuses a key that is not that of its EPC. Of several files the greatest status
+counts, as for show.
 
 Example:
   $ echo 0 KEEPALIVE 2 7 | llrp encode --hex

@@ -27,6 +27,7 @@ returns-then-eq-2-clause-request c =
       has_flag _ c.get_flag-then-eq-2-2.result (λ h. c.get_flag-then-eq-2-2.ensures.none (form ∙ h)) (λ h. c.get_flag-then-eq-2-2.ensures.value (form ∙ h)) (λ h. c.get_flag-then-eq-2-2.ensures.other (form ∙ h)),
       c.limit.ensures.number c.args.name.now,
       c.optional_text.ensures c.args.name.now,
+      c.label_words.ensures c.args.name.now,
     )
 
 pub returns-then-eq-3-clause-request : goal.returns-then-eq-3-clause-request
@@ -40,6 +41,7 @@ returns-then-eq-3-clause-request c =
       has_flag _ c.get_flag-then-eq-3-2.result (λ h. c.get_flag-then-eq-3-2.ensures.none (kinds ∙ h)) (λ h. c.get_flag-then-eq-3-2.ensures.value (kinds ∙ h)) (λ h. c.get_flag-then-eq-3-2.ensures.other (kinds ∙ h)),
       has_flag _ c.get_flag-then-eq-3-3.result (λ h. c.get_flag-then-eq-3-3.ensures.none (form ∙ h)) (λ h. c.get_flag-then-eq-3-3.ensures.value (form ∙ h)) (λ h. c.get_flag-then-eq-3-3.ensures.other (form ∙ h)),
       c.limit-then-eq-3.ensures.number c.args.name.now,
+      c.label_words-then-eq-3.ensures c.args.name.now,
     )
 
 pub limit-requires : goal.limit-requires

@@ -1,15 +1,16 @@
-use Rattle.std.proofs.Common.{◌≡◌, ap₂, ◌∙◌, codes}
+use Rattle.std.proofs.Common.{◌≡◌, ap, ◌∙◌, codes}
 use Rattle.clap.specs.Words.{Rule, app_of, with_rule}
 use Rattle.std.proofs.lemmas.Result.{IfOk-weaker}
-use Rattle.llrp_commands.specs.Calls.Arguments.{show_app, stream_app, with_files}
+use Rattle.llrp_commands.specs.Calls.Arguments.{show_app, stream_app, text_option_rule, with_files}
 use Rattle.llrp_commands.proofs.arguments.commands.show_command.Goals as goal
 
 pub returns-clause-app : goal.returns-clause-app
 returns-clause-app c =
-    let named = c.with_argument-named.ensures.app (stream_app (codes "show")) c.stream_command-command.ensures.app c.text_option.ensures.local in
-    let formed = c.with_argument.ensures.app _ named c.files_argument.ensures.local in
-    IfOk-weaker c.with_argument.result _ (λ r. app_of r ≡ with_files show_app)
-    (λ r h. h ∙ ap₂ (λ (names files : Rule). with_rule (with_rule (stream_app (codes "show")) names) files) c.text_option.ensures.rule c.files_argument.ensures.rule) formed
+    let names = c.with_argument-named.ensures.app (stream_app (codes "show")) c.stream_command-command.ensures.app c.text_option.ensures.local in
+    let named = IfOk-weaker c.with_argument-named.result _ (λ r. app_of r ≡ with_rule (stream_app (codes "show")) (text_option_rule (codes "names"))) (λ r h. h ∙ ap (λ (rule : Rule). with_rule (stream_app (codes "show")) rule) c.text_option.ensures.rule) names in
+    let labelled = c.with_labels-labelled.ensures.app _ named in
+    let formed = c.with_argument.ensures.app _ labelled c.files_argument.ensures.local in
+    IfOk-weaker c.with_argument.result _ (λ r. app_of r ≡ with_files show_app) (λ r h. h ∙ ap (λ (files : Rule). with_rule show_app files) c.files_argument.ensures.rule) formed
 
 pub returns-clause-local : goal.returns-clause-local
-returns-clause-local c = c.with_argument.ensures.local (c.with_argument-named.ensures.local c.stream_command-command.ensures.local c.text_option.ensures.local) c.files_argument.ensures.local
+returns-clause-local c = c.with_argument.ensures.local (c.with_labels-labelled.ensures.local (c.with_argument-named.ensures.local c.stream_command-command.ensures.local c.text_option.ensures.local)) c.files_argument.ensures.local
