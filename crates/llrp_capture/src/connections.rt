@@ -47,6 +47,14 @@ impl Connections {
         }
     }
 
+    /// The place of a connection, if it is open.
+    pub fn place_of(&self, stream: u32) -> Option<usize>
+        ensures { MatchOption result (IsNotThere self.now.streams.items stream)
+            (λ place. slice_get self.now.streams.items place ≡ Some stream) }
+    {
+        find(self.streams.as_slice(), stream)
+    }
+
     /// The place of a connection, which is opened at the last place if it is not open yet. After an error nothing changed.
     pub fn open(&mut self, stream: u32) -> Result<usize, OpenErr>
         ensures ok { IfOk result (λ place. Opens stream place self.old.streams.items self.new.streams.items) }
