@@ -296,19 +296,34 @@ the_keys = with_index 1 (filled (flag_rule (codes "keys")))
 abbrev the_schemes : Rule
 the_schemes = with_index 1 (filled (text_option_rule (codes "schemes")))
 
--- show, which has --names too, and files
+abbrev the_segments : Rule
+the_segments = with_index 1 (filled (text_option_rule (codes "segments")))
+
+-- show, which has --names and --segments too, and files
 show_gives : Gives (built_sub (with_files show_app).top)
 show_gives name words helpless met pass =
-    let c : List Rule = stream_rules (the_names ∷ the_keys ∷ the_schemes ∷ the_files ∷ the_help 2 ∷ []) in
+    let c : List Rule = stream_rules (the_names ∷ the_keys ∷ the_schemes ∷ the_segments ∷ the_files ∷ the_help 2 ∷ []) in
     let uses : AllUsesPass c c = (
       flag_passes c the_hex refl refl (omega arith),
       (
         flag_passes c the_all refl refl (omega arith),
-        (set_passes c the_limit refl refl refl, (flag_passes c the_json refl refl (omega arith), (set_passes c the_names refl refl refl, (flag_passes c the_keys refl refl (omega arith), (set_passes c the_schemes refl refl refl, (append_passes c the_files refl refl refl, (help_passes c (the_help 2) refl, tt))))))),
+        (
+          set_passes c the_limit refl refl refl,
+          (
+            flag_passes c the_json refl refl (omega arith),
+            (
+              set_passes c the_names refl refl refl,
+              (
+                flag_passes c the_keys refl refl (omega arith),
+                (set_passes c the_schemes refl refl refl, (set_passes c the_segments refl refl refl, (append_passes c the_files refl refl refl, (help_passes c (the_help 2) refl, tt)))),
+              ),
+            ),
+          ),
+        ),
       ),
     ) in
-    let found : AllFound c c = (refl, (refl, (refl, (refl, (refl, (refl, (refl, (refl, (refl, tt))))))))) in
-    inl (refl, has_stream_words (the_names ∷ the_keys ∷ the_schemes ∷ the_files ∷ the_help 2 ∷ []) (built_sub (with_files show_app).top) refl uses found words pass)
+    let found : AllFound c c = (refl, (refl, (refl, (refl, (refl, (refl, (refl, (refl, (refl, (refl, tt)))))))))) in
+    inl (refl, has_stream_words (the_names ∷ the_keys ∷ the_schemes ∷ the_segments ∷ the_files ∷ the_help 2 ∷ []) (built_sub (with_files show_app).top) refl uses found words pass)
 
 encode_gives : Gives (built_sub (with_files encode_app).top)
 encode_gives name words helpless met pass =

@@ -112,14 +112,15 @@ pub enum NetworkCommand<'a> {
 #[derive(Drop)]
 pub(crate) enum Request<'a> {
     /// Lists a stream of bytes, or of hexadecimal digits, in the profile or in the whole standard, as a
-    /// listing or as lines of JSON, whose names this word chooses. A message longer than this many octets is
-    /// a fault.
+    /// listing or as lines of JSON, whose names this word chooses; or the frames of a capture's segments, where the
+    /// reader has this port. A message longer than this many octets is a fault.
     Show {
         hex: bool,
         all: bool,
         json: bool,
         names: Option<&'a str>,
         labels: LabelWords<'a>,
+        segments: Option<&'a str>,
         limit: u32,
     },
     /// Writes the bytes of a listing, or of lines of JSON, in the profile or in the whole standard, or
@@ -272,6 +273,7 @@ fn request_named<'a>(name: &str, inner: &ArgMatches<'a>) -> Request<'a>
             json: inner.get_flag("json"),
             names: optional_text(inner, "names"),
             labels: label_words(inner),
+            segments: optional_text(inner, "segments"),
             limit: limit(inner),
         }
     } else if name == "encode" {

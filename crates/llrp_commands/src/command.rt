@@ -25,6 +25,7 @@ use crate::explain::explain;
 use crate::fields::{answer_fields, fields};
 use crate::labelled::{encode_with_labels, goes_without_labels, show_with_labels};
 use crate::show_names::show_by_names;
+use crate::show_segments::show_by_segments;
 use itoa::Buffer;
 use llrp_json::{list_stream_json, run_show_json};
 use llrp_listing::{
@@ -450,11 +451,16 @@ pub fn run_command<S: AsStr, R: Source, W: Sink, E: Sink>(
             json,
             names,
             labels,
+            segments,
             limit,
         } => {
             if labels.asks() {
-                let other = goes_without_labels(json, names);
+                let other = goes_without_labels(json, names, segments);
                 return show_with_labels(alloc, other, labels, hex, set_of(all), limit, r, w, e);
+            }
+            if let Some(port) = segments {
+                let plain = !hex && names.is_none();
+                return show_by_segments(alloc, plain, json, port, set_of(all), limit, r, w, e);
             }
             match names {
                 Some(word) => show_by_names(alloc, json, word, hex, set_of(all), limit, r, w, e),

@@ -22,16 +22,16 @@ use std::alloc::Global;
 
 /// What is written where --keys or --schemes does not go with the other words.
 const MISTAKE: &[u8] = b"\
-error: --keys and --schemes go with a listing, without --json and --names, and --schemes takes all
+error: --keys and --schemes go with a listing, without --json, --names and --segments, and --schemes takes all
 
 For more information, try '--help'.
 ";
 
 /// Whether one of these options of `show` was given, which go with no labels.
-pub(crate) fn goes_without_labels(json: bool, names: Option<&str>) -> bool
-    ensures { result ≡ (json || is_some names.entry) }
+pub(crate) fn goes_without_labels(json: bool, names: Option<&str>, segments: Option<&str>) -> bool
+    ensures { result ≡ (json || (is_some names.entry || is_some segments.entry)) }
 {
-    json || names.is_some()
+    json || names.is_some() || segments.is_some()
 }
 
 /// The labels that the words ask for, if no option beside them goes with none.

@@ -21,6 +21,7 @@ mod fields;
 mod labelled;
 pub mod laws;
 mod show_names;
+mod show_segments;
 
 pub use arguments::{
     AccessWords, AskWords, NetworkCommand, PlanWords, SimWords, StopWords, WatchWords, files_asked,

@@ -58,9 +58,9 @@ text_option_rule name = record (new_rule name) { long = Some name; value_names =
 abbrev pub with_labels : App → App
 with_labels a = with_rule (with_rule a (flag_rule (codes "keys"))) (text_option_rule (codes "schemes"))
 
--- show, which has the option --names too
+-- show, which has the options --names and --segments too
 abbrev pub show_app : App
-show_app = with_labels (with_rule (stream_app (codes "show")) (text_option_rule (codes "names")))
+show_app = with_rule (with_labels (with_rule (stream_app (codes "show")) (text_option_rule (codes "names")))) (text_option_rule (codes "segments"))
 
 -- encode
 abbrev pub encode_app : App

@@ -169,10 +169,11 @@ RanEpc text r0 r1 w0 w1 e0 e1 answer =
     IsNotBegun r0 r1 w0 w1 e0 e1 answer
     ⊎ ((outcome : Result Verdict ToolErr) × (r1 ≡ r0) × PrintsEpc text w0 w1 outcome × Answers (verdict_status outcome) e0 e1 answer)
 
--- if the words ask for show without --names and labels, it ran so
+-- if the words ask for show without --names, --segments and labels, it ran so
 abbrev pub ShowsIfAsked : List Text → SourceLog → SourceLog → SinkLog → SinkLog → SinkLog → SinkLog → Result ℕ ToolErr → Type 0
 ShowsIfAsked words r0 r1 w0 w1 e0 e1 answer =
-    (hex all json : Bool) (limit : ℕ) → Asks words (codes "show") hex all json limit → word_in (codes "names") (command_in words) ≡ None → AsksNoLabels words → RanShow json hex (set_of all) limit r0 r1 w0 w1 e0 e1 answer
+    (hex all json : Bool) (limit : ℕ) → Asks words (codes "show") hex all json limit → word_in (codes "names") (command_in words) ≡ None → AsksNoLabels words → word_in (codes "segments") (command_in words) ≡ None
+    → RanShow json hex (set_of all) limit r0 r1 w0 w1 e0 e1 answer
 
 -- the same of epc
 abbrev pub PrintsEpcIfAsked : List Text → SourceLog → SourceLog → SinkLog → SinkLog → SinkLog → SinkLog → Result ℕ ToolErr → Type 0

@@ -1,7 +1,7 @@
 -- What show and encode do with --keys and --schemes.
 use Rattle.std.specs.Prelude.{◌≡◌, ◌⊎◌, ◌||◌, ℕ, List, ◌++◌, Bool, true, false, Option, Some, None, Result, Ok, Err, codes, decimal}
 use Rattle.std.specs.Option.{is_some}
-use Rattle.clap.specs.Words.{Text}
+use Rattle.clap.specs.Words.{Row, Text}
 use Rattle.llrp_schema.specs.declared.kinds.KindSet.{KindSet}
 use Rattle.llrp_stream.specs.Device.{SourceLog, SinkLog, Wrote, WroteAndFailed}
 use Rattle.llrp_stream.specs.Calls.Device.{new_source}
@@ -64,11 +64,15 @@ LabelsEncodedTo other keys schemes hex p limit r0 r1 w0 w1 e0 e1 answer =
     ((labels : Labels) × (outcome : Result (Unit {0}) LabelErr) × MeansLabels other keys schemes labels × EncodesLabelled labels hex p limit r0 r1 w0 w1 outcome × AnswersLabels outcome e0 e1 answer)
     ⊎ (((labels : Labels) → MeansLabels other keys schemes labels → ⊥) × (r1 ≡ r0) × (w1 ≡ w0) × AnswersMistake e0 e1 answer)
 
--- if the words ask for show with labels, it ran so, or memory ran out before it began; --json and --names go with no labels
+-- whether one of the options is there that change what show reads or prints
+abbrev pub goes_with_none : Option (Text × List Row) → Bool
+goes_with_none found = is_some (word_in (codes "names") found) || is_some (word_in (codes "segments") found)
+
+-- if the words ask for show with labels, it ran so, or memory ran out before it began; --json, --names and --segments go with no labels
 abbrev pub LabelsShownIfAsked : List Text → SourceLog → SourceLog → SinkLog → SinkLog → SinkLog → SinkLog → Result ℕ ToolErr → Type 0
 LabelsShownIfAsked words r0 r1 w0 w1 e0 e1 answer =
     (hex all json keys : Bool) (limit : ℕ) (schemes : Option Text) → Asks words (codes "show") hex all json limit → AsksLabels words keys schemes → asks_labels keys schemes ≡ true
-    → IsNotBegun r0 r1 w0 w1 e0 e1 answer ⊎ ShownTo (json || is_some (word_in (codes "names") (command_in words))) keys schemes hex (set_of all) limit r0 r1 w0 w1 e0 e1 answer
+    → IsNotBegun r0 r1 w0 w1 e0 e1 answer ⊎ ShownTo (json || goes_with_none (command_in words)) keys schemes hex (set_of all) limit r0 r1 w0 w1 e0 e1 answer
 
 -- the same of encode; --json goes with no labels
 abbrev pub LabelsEncodedIfAsked : List Text → SourceLog → SourceLog → SinkLog → SinkLog → SinkLog → SinkLog → Result ℕ ToolErr → Type 0

@@ -1,5 +1,5 @@
 -- What show does with --names.
-use Rattle.std.specs.Prelude.{◌≡◌, ◌⊎◌, ℕ, List, Bool, true, false, Some, Result, Ok, Err, codes}
+use Rattle.std.specs.Prelude.{◌≡◌, ◌⊎◌, ℕ, List, Bool, true, false, Some, None, Result, Ok, Err, codes}
 use Rattle.clap.specs.Words.{Text}
 use Rattle.llrp_schema.specs.declared.kinds.KindSet.{KindSet}
 use Rattle.llrp_listing.specs.declared.outcome.ToolErr.{ToolErr}
@@ -58,8 +58,8 @@ NamedTo json word hex p limit r0 r1 w0 w1 e0 e1 answer =
 abbrev pub RanNamed : Bool → Text → Bool → KindSet → ℕ → SourceLog → SourceLog → SinkLog → SinkLog → SinkLog → SinkLog → Result ℕ ToolErr → Type 0
 RanNamed json word hex p limit r0 r1 w0 w1 e0 e1 answer = IsNotBegun r0 r1 w0 w1 e0 e1 answer ⊎ NamedTo json word hex p limit r0 r1 w0 w1 e0 e1 answer
 
--- if the words ask for show with --names and no labels, it ran so
+-- if the words ask for show with --names, no labels and no --segments, it ran so
 abbrev pub NamesIfAsked : List Text → SourceLog → SourceLog → SinkLog → SinkLog → SinkLog → SinkLog → Result ℕ ToolErr → Type 0
 NamesIfAsked words r0 r1 w0 w1 e0 e1 answer =
-    (hex all json : Bool) (limit : ℕ) (word : Text) → Asks words (codes "show") hex all json limit → word_in (codes "names") (command_in words) ≡ Some word → AsksNoLabels words
+    (hex all json : Bool) (limit : ℕ) (word : Text) → Asks words (codes "show") hex all json limit → word_in (codes "names") (command_in words) ≡ Some word → AsksNoLabels words → word_in (codes "segments") (command_in words) ≡ None
     → RanNamed json word hex (set_of all) limit r0 r1 w0 w1 e0 e1 answer

@@ -33,7 +33,7 @@ IsEpc found words =
 
 -- the limit of what is requested, where it has one, is such a limit, that of watch one of a client, and what texts do not say is as above
 abbrev pub HasLimit : Request → Type 0
-HasLimit (Show hex all json names labels limit) = IsLimit limit
+HasLimit (Show hex all json names labels segments limit) = IsLimit limit
 HasLimit (Encode hex all json labels limit) = IsLimit limit
 HasLimit (Epc words) = IsUnsaid words
 HasLimit (Fields all name) = Unit {0}
@@ -52,9 +52,9 @@ IsTexts id found texts = texts ≡ texts_in id found
 
 -- what is requested is the command found, with its arguments
 abbrev pub IsRequest : Option (Text × List Row) → Request → Type 0
-IsRequest found (Show hex all json names labels limit) =
+IsRequest found (Show hex all json names labels segments limit) =
     (name_in found ≡ Some (codes "show")) × HasFlag (hex_in found) hex × HasFlag (all_in found) all × HasFlag (json_in found) json × HasNumber (codes "limit") found limit × HasOptionalText (codes "names") found names
-    × IsLabelWords found labels
+    × IsLabelWords found labels × HasOptionalText (codes "segments") found segments
 IsRequest found (Encode hex all json labels limit) =
     (name_in found ≡ Some (codes "encode")) × HasFlag (hex_in found) hex × HasFlag (all_in found) all × HasFlag (json_in found) json × HasNumber (codes "limit") found limit × IsLabelWords found labels
 IsRequest found (Epc words) = (name_in found ≡ Some (codes "epc")) × IsEpc found words

@@ -302,7 +302,9 @@ fn show_command<'a>(alloc: Global) -> Result<Command<'a>, AllocError>
     let keys = "Print the key of each EPC after it, as gtin 80614141123458 6789";
     let named = with_argument(command, text_option(alloc, "names", "SET", names));
     let labelled = with_labels(alloc, named, keys);
-    with_argument(labelled, files_argument(alloc))
+    let segments = "Read tshark's lines of a capture; the port is the reader's";
+    let cut = with_argument(labelled, text_option(alloc, "segments", "PORT", segments));
+    with_argument(cut, files_argument(alloc))
 }
 
 /// The command `encode`.

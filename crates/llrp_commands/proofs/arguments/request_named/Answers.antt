@@ -28,6 +28,7 @@ returns-then-eq-2-clause-request c =
       c.limit.ensures.number c.args.name.now,
       c.optional_text.ensures c.args.name.now,
       c.label_words.ensures c.args.name.now,
+      c.optional_text-then-eq-2.ensures c.args.name.now,
     )
 
 pub returns-then-eq-3-clause-request : goal.returns-then-eq-3-clause-request

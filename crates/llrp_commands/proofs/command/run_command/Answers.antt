@@ -23,18 +23,18 @@ returns-in-Explain-clause-explain g c = λ hex all limit asks.
     (rw c.in-Explain.is at (c.in_ok-hex.ensures.named asks.parsed)) asks c.set_of-in-Explain.ensures c.explain-outcome.ensures c.verdict_status-in-Explain.ensures c.answer-in-Explain.ensures
 
 pub returns-then-asks-clause-show : goal.returns-then-asks-clause-show
-returns-then-asks-clause-show g c = λ hex all json limit asks unnamed marks.
+returns-then-asks-clause-show g c = λ hex all json limit asks unnamed marks uncut.
     let is = rw c.in-Show.is at (c.in_ok-hex.ensures.named asks.parsed) in
     absurd (no_labels (command_in (map g.S.AsStr.text c.args.words.now)) c.in-Show.labels c.asks.result is.6 marks.0 marks.1 c.asks.ensures c.if-asks.true)
 
 pub returns-then-asks-clause-names : goal.returns-then-asks-clause-names
-returns-then-asks-clause-names g c = λ hex all json limit word asks named marks.
+returns-then-asks-clause-names g c = λ hex all json limit word asks named marks uncut.
     let is = rw c.in-Show.is at (c.in_ok-hex.ensures.named asks.parsed) in
     absurd (no_labels (command_in (map g.S.AsStr.text c.args.words.now)) c.in-Show.labels c.asks.result is.6 marks.0 marks.1 c.asks.ensures c.if-asks.true)
 
 pub returns-then-asks-clause-labels_shown : goal.returns-then-asks-clause-labels_shown
 returns-then-asks-clause-labels_shown g c = λ hex all json keys limit schemes asks marks on.
-    inr (shown_as (map g.S.AsStr.text c.args.words.now) c.in-Show.hex c.in-Show.all c.in-Show.json hex all json keys c.goes_without_labels-other.result c.in-Show.names c.in-Show.labels c.in-Show.limit limit schemes c.set_of.result c.show_with_labels.result _ _ _ _ _ _
+    inr (shown_as (map g.S.AsStr.text c.args.words.now) c.in-Show.hex c.in-Show.all c.in-Show.json hex all json keys c.goes_without_labels-other.result c.in-Show.names c.in-Show.segments c.in-Show.labels c.in-Show.limit limit schemes c.set_of.result c.show_with_labels.result _ _ _ _ _ _
     (rw c.in-Show.is at (c.in_ok-hex.ensures.named asks.parsed)) asks marks c.set_of.ensures c.goes_without_labels-other.ensures c.show_with_labels.ensures.shown)
 
 pub returns-then-asks-2-clause-encode : goal.returns-then-asks-2-clause-encode
