@@ -6,7 +6,7 @@ _llrp() {
         # a file, which readline completes where nothing is found here
         *'<' | *'>' | --rospec | --prefixes | --save | --access | --password-file) return ;;
         # a number, a text, or a list
-        --limit | --antennas | --every | --polls | --reports | --timeout | --id | --keepalive | --again | --for | --name | --power | --bind | --clients | --prefix-digits | --filter | --tag | --read | --write | --epc | --lock | --antenna | --settle)
+        --limit | --antennas | --every | --polls | --reports | --timeout | --id | --keepalive | --again | --for | --name | --power | --bind | --clients | --clock | --prefix-digits | --filter | --tag | --read | --write | --epc | --lock | --antenna | --settle)
             compopt +o default
             return
             ;;
@@ -29,7 +29,7 @@ _llrp() {
             stop) words='--rospec --id --timeout --help' ;;
             ask) words='--json --timeout --go-on --raw --help' ;;
             access) words='--tag --read --write --epc --lock --password-file --verify --antenna --settle --timeout --json --help' ;;
-            sim) words='--all --bind --clients --ready --help' ;;
+            sim) words='--all --bind --clients --clock --ready --help' ;;
             fields) words='--all --help' ;;
             explain) words='--hex --all --limit --help' ;;
             epc) words='--forms --list --json --to --prefix-digits --filter --prefixes --help' ;;

@@ -1,6 +1,7 @@
 #!/usr/bin/env python3
 """Runs `sim` with the options of test benches over real sockets: it says that it listens before anything else, serves clients one after another,
 each as a new reader by the whole script, says how one that is at fault ended and serves the next, and listens where it is to and nowhere else.
+With --clock what comes by itself comes at its moment.
 
 usage: tests/sim.py [PROGRAM]
 
@@ -10,15 +11,17 @@ PROGRAM is llrp, crates/llrp/out/llrp where none is given. What a reader says fi
 import contextlib
 import os
 import socket
+import struct
 import subprocess
 import sys
+import time
 
 from parts.counting import finish_results, text_of
 from parts.ports import held_port, listens_at, wait_until
 from parts.repository import TOP, program_given
 
 # How many comparisons there are.
-LEAST = 48
+LEAST = 100
 # How long a run may take, in seconds.
 LONGEST = 60
 
@@ -31,6 +34,13 @@ CLOSE = bytes.fromhex("040E0000000A00000005")
 CLOSED = bytes.fromhex("0404 00000012 00000005 011F 0008 0000 0000")
 FRONT = bytes.fromhex("043E0000000A00")
 BROKEN = bytes.fromhex("043E0000000900000001")
+
+# Types of messages (LLRP 1.1, section 17.1).
+SET_READER_CONFIG, CLOSE_CONNECTION, ADD_ROSPEC, START_ROSPEC, ENABLE_ROSPEC, GET_SUPPORTED_VERSION = 3, 14, 20, 22, 24, 46
+SET_READER_CONFIG_RESPONSE, ADD_ROSPEC_RESPONSE, START_ROSPEC_RESPONSE, ENABLE_ROSPEC_RESPONSE = 13, 30, 32, 34
+CLOSE_CONNECTION_RESPONSE, GET_SUPPORTED_VERSION_RESPONSE, RO_ACCESS_REPORT, KEEPALIVE, EVENT = 4, 56, 61, 62, 63
+# By how much something may come late, in seconds: a clock that the machine's other work holds up.
+LATE = 0.4
 
 
 @contextlib.contextmanager
@@ -161,6 +171,226 @@ def refusals():
             yield " ".join(words), status == 2 and said.startswith("error: ")
 
 
+# ---- with --clock
+
+
+def message(kind, number, body=b""):
+    """A message of version 1."""
+    return struct.pack(">HII", 0x400 + kind, 10 + len(body), number) + body
+
+
+def parameter(kind, body):
+    """A parameter of type, length and value."""
+    return struct.pack(">HH", kind, 4 + len(body)) + body
+
+
+def rospec(duration=0):
+    """ROSpec 1 for each antenna, which reports each tag, and runs for `duration` milliseconds if that is not 0 (LLRP 1.1, section 11)."""
+    stop = parameter(182, struct.pack(">BI", 1 if duration else 0, duration))
+    boundary = parameter(178, parameter(179, b"\0") + stop)
+    antennas = parameter(183, struct.pack(">HH", 1, 0) + parameter(184, struct.pack(">BI", 0, 0)) + parameter(186, struct.pack(">HB", 1, 1)))
+    report = parameter(237, struct.pack(">BH", 2, 1) + parameter(238, b"\x10\0"))
+    return parameter(177, struct.pack(">IBB", 1, 0, 0) + boundary + antennas + report)
+
+
+def started(duration=0):
+    """The messages with which a client starts that ROSpec."""
+    number = struct.pack(">I", 1)
+    return message(ADD_ROSPEC, 1, rospec(duration)) + message(ENABLE_ROSPEC, 2, number) + message(START_ROSPEC, 3, number)
+
+
+class Client:
+    """A client that takes what its reader sends, message by message, and when each came."""
+
+    def __init__(self, port):
+        self.connection = socket.create_connection(("127.0.0.1", port), timeout=LONGEST)
+        self.held = b""
+
+    def __enter__(self):
+        return self
+
+    def __exit__(self, *_):
+        self.connection.close()
+
+    def send(self, octets):
+        self.connection.sendall(octets)
+
+    def frame(self, seconds):
+        """The next frame within a time, or b"" if none comes, and None at the end."""
+        until = time.monotonic() + seconds
+        while len(self.held) < 6 or len(self.held) < struct.unpack(">I", self.held[2:6])[0]:
+            left = until - time.monotonic()
+            if left <= 0:
+                return b""
+            self.connection.settimeout(left)
+            try:
+                more = self.connection.recv(4096)
+            except TimeoutError:
+                return b""
+            if not more:
+                return None
+            self.held += more
+        length = struct.unpack(">I", self.held[2:6])[0]
+        frame, self.held = self.held[:length], self.held[length:]
+        return frame
+
+    def heard(self, seconds):
+        """The types of the messages that come within a time, each with when it came, from now on; None for the end."""
+        begun = time.monotonic()
+        heard = []
+        while (left := begun + seconds - time.monotonic()) > 0:
+            frame = self.frame(left)
+            if frame is None:
+                return heard + [(None, time.monotonic() - begun)]
+            if frame:
+                heard.append((kind_of(frame), time.monotonic() - begun))
+        return heard
+
+    def await_kind(self, kind):
+        """Takes messages until one of this kind has come, and returns it."""
+        while frame := self.frame(LONGEST):
+            if kind_of(frame) == kind:
+                return frame
+        raise OSError(f"no message of type {kind} came")
+
+
+def kind_of(frame):
+    """The type of a message."""
+    return struct.unpack(">H", frame[:2])[0] & 0x3FF
+
+
+@contextlib.contextmanager
+def living(*words, script="", clock="real"):
+    """Gives a port where `sim` serves clients by a clock, and the running `sim`."""
+    with held_port() as port, simulated(str(port), "--clock", clock, "--ready", *words, script=script) as run:
+        run.stderr.readline()
+        yield port, run
+
+
+def comes_at(heard, kind, moments):
+    """Whether messages of a type come at these moments, and no others do."""
+    came = [moment for its, moment in heard if its == kind]
+    return len(came) == len(moments) and all(wanted - 0.02 <= moment <= wanted + LATE for moment, wanted in zip(came, moments))
+
+
+def time_passes():
+    """What comes by itself comes at its moment."""
+    with living() as (port, run), Client(port) as client:
+        accepted = client.await_kind(EVENT)
+        stamp = struct.unpack(">Q", accepted[18:26])[0] / 1_000_000
+        yield "the time of the first event", abs(stamp - time.time()) < LATE + 1 and accepted[:14] == ACCEPTED[:14]
+        client.send(message(SET_READER_CONFIG, 1, b"\0" + parameter(220, struct.pack(">BI", 1, 250))))
+        client.await_kind(SET_READER_CONFIG_RESPONSE)
+        heard = client.heard(1.1)
+        yield "KEEPALIVEs come by themselves", [kind for kind, _ in heard] in ([KEEPALIVE] * 3, [KEEPALIVE] * 4)
+        yield "each a period after the other", all(0.2 < b - a < 0.25 + LATE for (_, a), (_, b) in zip(heard, heard[1:]))
+        client.send(CLOSE)
+        client.await_kind(CLOSE_CONNECTION_RESPONSE)
+        yield "it ends well", ended(run) == (0, "")
+    with living() as (port, run), Client(port) as client:
+        client.send(started(duration=500))
+        client.await_kind(START_ROSPEC_RESPONSE)
+        yield "a ROSpec starts, and ends by itself", comes_at(client.heard(1.2), EVENT, [0, 0.5])
+    with living() as (port, run), Client(port) as client:
+        client.await_kind(EVENT)
+        yield "a client that says nothing hears nothing", client.heard(0.5) == [] and run.poll() is None
+        client.send(message(GET_SUPPORTED_VERSION, 9))
+        yield "and is served then", client.await_kind(GET_SUPPORTED_VERSION_RESPONSE)[6:10] == struct.pack(">I", 9)
+
+
+def lines_with_moments():
+    """Lines of a script happen at their moments, in its order."""
+    tag = "seen 1 -60 urn:epc:tag:gid-96:1.2.3\n"
+    with living(script=f"started+300ms {tag}started+800ms {tag}accepted+0s {tag}") as (port, _), Client(port) as client:
+        client.send(started())
+        client.await_kind(START_ROSPEC_RESPONSE)
+        yield "tags at their moments", comes_at(client.heard(1.4), RO_ACCESS_REPORT, [0.3, 0.8])
+    with living(script=f"accepted+1s {tag}") as (port, _), Client(port) as client:
+        client.send(started())
+        client.await_kind(START_ROSPEC_RESPONSE)
+        yield "a moment after the connection", comes_at(client.heard(1.8), RO_ACCESS_REPORT, [1])
+    script = "".join(f"started+{at}ms seen 1 -60 urn:epc:tag:gid-96:1.2.{serial}\n" for at, serial in ((600, 3), (300, 1), (300, 2), (600, 4)))
+    with living(script=script) as (port, _), Client(port) as client:
+        client.send(started())
+        serials = [client.await_kind(RO_ACCESS_REPORT)[-4] for _ in range(4)]
+        yield "lines of one moment in the script's order", [it & 15 for it in serials] == [1, 2, 3, 4]
+    with living(script=f"started+4s {tag}", clock="real*10") as (port, _), Client(port) as client:
+        client.send(started())
+        client.await_kind(START_ROSPEC_RESPONSE)
+        yield "ten times as fast", comes_at(client.heard(1.2), RO_ACCESS_REPORT, [0.4])
+    with living(script=f"started+100ms every 20ms for 1s {tag}") as (port, _), Client(port) as client:
+        client.send(started())
+        client.await_kind(START_ROSPEC_RESPONSE)
+        reports = [moment for kind, moment in client.heard(1.8) if kind == RO_ACCESS_REPORT]
+        yield "every 20 milliseconds for a second", len(reports) == 50 and 0.08 < reports[0] < 0.1 + LATE and 1.0 < reports[-1] < 1.08 + LATE
+    with living(script=f"3 0 {tag}") as (port, _), Client(port) as client:
+        client.send(message(GET_SUPPORTED_VERSION, 9) + started())
+        yield "a line after the client's third frame", comes_at(client.heard(0.6), RO_ACCESS_REPORT, [0])
+
+
+def clients_that_misbehave():
+    """Clients that cut their frames anywhere, fall silent within one, reset, and two hundred one after another."""
+    tag = "3 0 seen 1 -60 urn:epc:tag:gid-96:1.2.3\n"
+    talk_of = [EVENT, ADD_ROSPEC_RESPONSE, ENABLE_ROSPEC_RESPONSE, START_ROSPEC_RESPONSE, EVENT, RO_ACCESS_REPORT, CLOSE_CONNECTION_RESPONSE]
+    octets = started() + message(CLOSE_CONNECTION, 4)
+    for size in (1, 3, 7, 11, 64, 4096):
+        with living(script=tag) as (port, run), Client(port) as client:
+            client.connection.setsockopt(socket.IPPROTO_TCP, socket.TCP_NODELAY, 1)
+            for start in range(0, len(octets), size):
+                client.send(octets[start : start + size])
+            heard = [kind for kind, _ in client.heard(LONGEST)]
+            yield f"frames cut into pieces of {size}", heard == talk_of + [None] and ended(run) == (0, "")
+    with living("--clients", "3") as (port, run):
+        with Client(port) as client:
+            client.send(FRONT)
+            yield "a client that falls silent within a frame", client.heard(0.5) != [] and run.poll() is None
+        with Client(port) as client:
+            client.await_kind(EVENT)
+            client.connection.setsockopt(socket.SOL_SOCKET, socket.SO_LINGER, struct.pack("ii", 1, 0))
+        with Client(port) as client:
+            client.send(CLOSE)
+            yield "a client after one that reset", [kind for kind, _ in client.heard(LONGEST)] == [EVENT, CLOSE_CONNECTION_RESPONSE, None]
+        yield "how they ended", ended(run) == (3, "llrp: early\nllrp: read\n")
+    with living("--clients", "200") as (port, run):
+        for _ in range(200):
+            with Client(port) as client:
+                client.send(CLOSE)
+                if [kind for kind, _ in client.heard(LONGEST)] != [EVENT, CLOSE_CONNECTION_RESPONSE, None]:
+                    break
+        yield "two hundred clients by the clock", ended(run) == (0, "")
+
+
+def readers_that_misbehave():
+    """What a script makes a reader do on purpose."""
+    with living(script="accepted+300ms close\n") as (port, run), Client(port) as client:
+        heard = client.heard(2)
+        yield "it closes the connection", [kind for kind, _ in heard] == [EVENT, None] and 0.25 < heard[1][1] < 0.3 + LATE and ended(run) == (0, "")
+    with living(script="accepted+0s silent 600ms\n") as (port, run), Client(port) as client:
+        client.await_kind(EVENT)
+        client.send(message(GET_SUPPORTED_VERSION, 9))
+        yield "it falls silent, and then says what it would have", comes_at(client.heard(1.5), GET_SUPPORTED_VERSION_RESPONSE, [0.57])
+
+
+def refused_clocks():
+    """Clocks and lines that are none."""
+    tag = "seen 1 -60 urn:epc:tag:gid-96:1.2.3\n"
+    for clock in ("", "fast", "real*", "real*0", "real*01", "real*1001", "real*x", "Real"):
+        with held_port() as port, simulated(str(port), "--clock", clock, "--ready") as run:
+            status, said = ended(run)
+            yield f"--clock {clock!r}", status == 2 and said.startswith("error: invalid value for '--clock <CLOCK>'")
+    for line in (
+        f"accepted+1 {tag}", f"accepted+ms {tag}", f"accepted+01s {tag}", f"accepted 1s {tag}", f"Accepted+1s {tag}", f"+1s {tag}", f"ended+1s {tag}",
+        f"accepted+1s  {tag}", "accepted+1s\n", "accepted+1s seen 1 -60 urn:epc:tag:gid-96:1.2\n", f"accepted+1000000001s {tag}", "accepted+1s close now\n",
+        f"started+1s every 0ms for 1s {tag}", f"started+1s every 1ms {tag}", "accepted+1s silent\n", "accepted+1s close", f"accepted+1s 0 0 {tag}",
+    ):
+        with held_port() as port, simulated(str(port), "--clock", "real", "--ready", script=f"0 0 tick\n{line}") as run:
+            yield f"the line {line!r}", ended(run) == (1, "llrp: script line 2\n")
+    with held_port() as port, simulated(str(port), "--ready", script=f"accepted+1s {tag}") as run:
+        yield "a moment without a clock", ended(run) == (1, "llrp: script line 1\n")
+    with held_port() as port, simulated(str(port), "--clock", "real", "--ready", script=f"3 5 tick\naccepted+1s {tag}3 4 tick\n") as run:
+        yield "NOW that falls", ended(run) == (1, "llrp: script line 3\n")
+
+
 def examples():
     """The example of a test by pytest passes, each test with a reader of its own."""
     words = ["pytest-3", "-q", "-p", "no:cacheprovider", os.path.join(TOP, "examples/python/test_client.py")]
@@ -169,8 +399,12 @@ def examples():
     yield "examples/python/test_client.py", done.returncode == 0 and "2 passed" in done.stdout
 
 
+PLAIN = (ready, one_after_another, whole_scripts, addresses, refusals, examples)
+BY_CLOCK = (time_passes, lines_with_moments, clients_that_misbehave, readers_that_misbehave, refused_clocks)
+
+
 def main():
-    results = [it for rows in (ready, one_after_another, whole_scripts, addresses, refusals, examples) for it in rows()]
+    results = [it for rows in PLAIN + BY_CLOCK for it in rows()]
     return finish_results(results, LEAST)
 
 

@@ -22,9 +22,13 @@ mod decibels;
 mod farewell;
 mod faults;
 mod files;
+mod frame_ends;
 mod heard_frames;
 mod hints;
 mod inventory;
+mod live_client;
+mod live_clock;
+mod live_sim;
 mod message_printer;
 mod network;
 mod noted;
@@ -51,6 +55,7 @@ use address::address_of;
 use files::run_files;
 use hints::Noticing;
 use inventory::Target;
+use live_clock::rate_of;
 use llrp_commands::{
     NetworkCommand, PlanWords, USAGE, files_asked, network_command, prefixes_file, run_command,
 };
@@ -62,7 +67,7 @@ use out_of_memory::end_without_memory;
 use plan::{open_plan, refuse};
 use prefixes::run_epc_by_file;
 use progress::Progress;
-use refused_words::{NO_ADDRESS, plan_clash, stop_clash, watch_clash};
+use refused_words::{NO_ADDRESS, NO_CLOCK, plan_clash, stop_clash, watch_clash};
 use std::env;
 use std::fs::File;
 use std::io::{ErrorKind, IsTerminal, Stderr};
@@ -129,7 +134,13 @@ fn run_network(
         return Ok(USAGE);
     }
     match command {
-        NetworkCommand::Sim { words } => { sim::sim(rt, alloc, words, &mut input, &mut errors) }
+        NetworkCommand::Sim { words } => match words.clock {
+            None => sim::sim(rt, alloc, words, &mut input, &mut errors),
+            Some(clock) => match rate_of(clock) {
+                Some(rate) => live_sim::live_sim(rt, words, rate),
+                None => refuse_words(NO_CLOCK, &mut errors),
+            },
+        },
         NetworkCommand::Inventory {
             host,
             port,

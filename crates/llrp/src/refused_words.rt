@@ -40,6 +40,10 @@ const MESSAGES_AS_WORDS: &[u8] =
 pub const NO_ADDRESS: &[u8] =
     b"error: invalid value for '<HOST>': expected HOST, HOST:PORT, [IPV6] or [IPV6]:PORT\n\nFor more information, try '--help'.\n";
 
+/// What is written if a clock is none.
+pub const NO_CLOCK: &[u8] =
+    b"error: invalid value for '--clock <CLOCK>': expected real, or real*N with N from 1 to 1000\n\nFor more information, try '--help'.\n";
+
 /// What is written if the options of a plan exclude each other.
 pub fn plan_clash(words: PlanWords<'_>) -> Option<&'static [u8]> {
     if has_every_twice(words) {

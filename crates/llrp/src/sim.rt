@@ -47,7 +47,7 @@ pub fn serve_next(
 const THIS_MACHINE: &str = "127.0.0.1";
 
 /// The address to listen on.
-fn listens_on(bind: Option<&str>) -> &str
+pub fn listens_on(bind: Option<&str>) -> &str
     ensures { result.now ≡ listens_on bind.entry }
 {
     match bind {

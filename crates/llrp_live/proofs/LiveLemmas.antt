@@ -1,6 +1,5 @@
 -- What doings one after another make of a reader, and what a piece makes of one in real time.
-use Rattle.std.proofs.Common.{◌≡◌, ℕ, Bool, true, false, List, [], ◌∷◌, ◌++◌, length, map, take, drop, Option, Some, None, Result, Ok, Err, refl, sym, ap, subst, ◌∙◌, append_assoc, arith}
-use Rattle.std.specs.List.{AllByRecursion}
+use Rattle.std.proofs.Common.{◌≡◌, ℕ, ◌+◌, min, if◌then◌else◌, Bool, true, false, List, [], ◌∷◌, ◌++◌, length, take, drop, Option, Some, None, Result, Ok, Err, refl, sym, ap, subst, ◌∙◌, append_assoc, arith}
 use Rattle.std.proofs.lemmas.List.{append-nil, map-append, take-append-drop}
 use Rattle.llrp_schema.specs.declared.kinds.KindSet.{KindSet}
 use Rattle.llrp_schema.specs.declared.kinds.KindSet.TheVariants.{Standard}
@@ -21,13 +20,11 @@ use Rattle.llrp_session.specs.declared.reader.events.StepFault.{StepFault}
 use Rattle.llrp_session.specs.declared.reader.events.StepFault.TheVariants as faults
 use Rattle.llrp_listing.specs.Calls.Fault.{error_by}
 use Rattle.llrp_listing.specs.declared.outcome.ToolErr.{ToolErr}
-use Rattle.llrp_listing.specs.declared.outcome.ToolErr.TheVariants.{Broken, Memory}
 use Rattle.llrp_endpoints.specs.Serving.{said, turn_or_none}
 use Rattle.llrp_live.specs.declared.reader.LiveReader.{LiveReader}
-use Rattle.llrp_live.specs.declared.reader.LivePhase.TheVariants.{Open}
-use Rattle.llrp_live.specs.Calls.Doings.{Doing, Dated, Happens, doing, closes, once, course, taken_at}
-use Rattle.llrp_live.specs.Calls.Living.{Lives, NoneCloses, Fails, Goes, GoesOn, HasClosed, IsBroken, RanOut}
-use Rattle.llrp_live.specs.Private.Living.{Does, DoesEvent, DoesItem, phase_after}
+use Rattle.llrp_live.specs.Calls.Doings.{Dated, doing, closes, comes_in, once, course, taken_at}
+use Rattle.llrp_live.specs.Calls.Living.{Lives, came, taken_of, NoneCloses, Fails, Goes, GoesOn, HasClosed, RanOut}
+use Rattle.llrp_live.specs.Private.Living.{DoesEvent, DoesItem, count_more, phase_after}
 
 -- ---- a step of the reader
 
@@ -68,32 +65,45 @@ one_more r ds d core new c n = n ∙ ap (λ (x : Reader). (once x d d.doing).rea
 pub said_more : (r : Reader) (ds : List Dated) (d : Dated) (core : Reader) (base out0 out1 : List MessageTree) → core ≡ (course r ds).reader → out0 ≡ base ++ (course r ds).said → out1 ≡ out0 ++ (once core d d.doing).said → out1 ≡ base ++ (course r (ds ++ d ∷ [])).said
 said_more r ds d core base out0 out1 c b o =
     let first = (course r ds).said in
-    let then = (once (course r ds).reader d d.doing).said in
-    o ∙ ap (λ (x : List MessageTree). x ++ (once core d d.doing).said) b ∙ ap (λ (x : Reader). (base ++ first) ++ (once x d d.doing).said) c ∙ append_assoc base first then
-    ∙ ap (λ (x : List MessageTree). base ++ (first ++ x)) (sym (append-nil then)) ∙ ap (λ (x : List MessageTree). base ++ x) (sym (said-append r ds (d ∷ [])))
+    let later = (once (course r ds).reader d d.doing).said in
+    o ∙ ap (λ (x : List MessageTree). x ++ (once core d d.doing).said) b ∙ ap (λ (x : Reader). (base ++ first) ++ (once x d d.doing).said) c ∙ append_assoc base first later
+    ∙ ap (λ (x : List MessageTree). base ++ (first ++ x)) (sym (append-nil later)) ∙ ap (λ (x : List MessageTree). base ++ x) (sym (said-append r ds (d ∷ [])))
 
 pub happened : (d : Dated) (reader : Reader) (before : List Dated) (bytes : List ℕ) (items : List Item) (old new : LiveReader) → Lives reader before bytes items old → new.core ≡ (once old.core d d.doing).reader → new.decoder ≡ old.decoder → new.phase ≡ old.phase
-    → Lives reader (before ++ d ∷ []) bytes items new
-happened d reader before bytes items old new h core same phase = record {
+    → new.taken ≡ old.taken → Lives reader (before ++ d ∷ []) bytes items new
+happened d reader before bytes items old new h core same phase taken = record {
   rest = h.rest;
   are = h.are;
   reader_is = one_more reader before d old.core new.core h.reader_is core;
   decoder = rw same h.decoder;
   limit = rw same h.limit;
   phase = phase ∙ h.phase;
+  taken = taken ∙ h.taken;
 }
 
 pub said_one : (d : Dated) (r : Reader) (out0 out1 : List MessageTree) → out1 ≡ out0 ++ (once r d d.doing).said → out1 ≡ out0 ++ (course r (d ∷ [])).said
 said_one d r out0 out1 h = h ∙ ap (λ (x : List MessageTree). out0 ++ x) (sym (append-nil (once r d d.doing).said))
 
+-- ---- how many items came
+
+came_push : (items : List Item) (item : Item) → came (items ++ item ∷ []) ≡ came items + (if comes_in (doing item) then 1 else 0)
+came_push [] item = omega arith
+came_push (i ∷ items) item = rw (came_push items item) (omega arith)
+
+bounded : (n k : ℕ) → min (min n 18446744073709551615 + k) 18446744073709551615 ≡ min (n + k) 18446744073709551615
+bounded n k = omega arith
+
+pub one_taken : (items : List Item) (item : Item) → count_more (taken_of items) (comes_in (doing item)) ≡ taken_of (items ++ item ∷ [])
+one_taken items item = bounded (came items) (if comes_in (doing item) then 1 else 0) ∙ ap (λ (n : ℕ). min n 18446744073709551615) (sym (came_push items item))
+
 -- ---- the phase after a piece
 
 pub phased : (now : ℕ) (piece : List ℕ) (reader : Reader) (before : List Dated) (bytes : List ℕ) (items : List Item) (old mid new : LiveReader) (out0 out1 : List MessageTree) (answer : Result Bool ToolErr) → Goes now piece reader before bytes items old mid out0 out1 answer
-    → new.core ≡ mid.core → new.decoder ≡ mid.decoder → new.phase ≡ phase_after answer → Goes now piece reader before bytes items old new out0 out1 answer
-phased now piece reader before bytes items old mid new out0 out1 (Ok false) g core same phase =
-    record { more = g.more; none = g.none; said = g.said; lives = record { rest = g.lives.rest; are = g.lives.are; reader_is = core ∙ g.lives.reader_is; decoder = rw same g.lives.decoder; limit = rw same g.lives.limit; phase = phase } }
-phased now piece reader before bytes items old mid new out0 out1 (Ok true) g core same phase = g
-phased now piece reader before bytes items old mid new out0 out1 (Err error) g core same phase = g
+    → new.core ≡ mid.core → new.decoder ≡ mid.decoder → new.phase ≡ phase_after answer → new.taken ≡ mid.taken → Goes now piece reader before bytes items old new out0 out1 answer
+phased now piece reader before bytes items old mid new out0 out1 (Ok false) g core same phase taken =
+    record { more = g.more; none = g.none; said = g.said; lives = record { rest = g.lives.rest; are = g.lives.are; reader_is = core ∙ g.lives.reader_is; decoder = rw same g.lives.decoder; limit = rw same g.lives.limit; phase = phase; taken = taken ∙ g.lives.taken } }
+phased now piece reader before bytes items old mid new out0 out1 (Ok true) g core same phase taken = g
+phased now piece reader before bytes items old mid new out0 out1 (Err error) g core same phase taken = g
 
 -- ---- a piece in a loop
 
@@ -145,14 +155,14 @@ module _ (now : ℕ) (piece rest : List ℕ) (reader : Reader) (before : List Da
   -- ---- no frame ends
 
   pub went_on : (fed : Fed) (new : LiveReader) → ((p : KindSet) (front : List ℕ) → StandsIn p s.decoder front → TakesIn p s.decoder.limit front rest new.decoder fed.used fed.item) → fed.item ≡ None
-      → new.decoder.limit ≡ s.decoder.limit → new.core ≡ s.core → new.phase ≡ s.phase → GoesOn now piece reader before bytes items old new out0 out1
-  went_on fed new feeds is limit core phase =
+      → new.decoder.limit ≡ s.decoder.limit → new.core ≡ s.core → new.phase ≡ s.phase → new.taken ≡ s.taken → GoesOn now piece reader before bytes items old new out0 out1
+  went_on fed new feeds is limit core phase taken =
       let t = subst (λ (o : Option Item). TakesIn Standard s.decoder.limit f.lives.rest rest new.decoder fed.used o) is (feeds Standard f.lives.rest f.lives.decoder) in
       record {
         more = f.more;
         none = f.none;
         said = f.said;
-        lives = record { rest = f.lives.rest ++ rest; are = grown; reader_is = core ∙ f.lives.reader_is; decoder = t.1; limit = limit ∙ f.lives.limit; phase = phase ∙ f.lives.phase };
+        lives = record { rest = f.lives.rest ++ rest; are = grown; reader_is = core ∙ f.lives.reader_is; decoder = t.1; limit = limit ∙ f.lives.limit; phase = phase ∙ f.lives.phase; taken = taken ∙ f.lives.taken };
       }
 
   -- ---- a frame ends
@@ -190,8 +200,9 @@ module _ (now : ℕ) (piece rest : List ℕ) (reader : Reader) (before : List Da
       pub closed : closes item ≡ true → HasClosed now piece reader bytes items old out0 out2
       closed c = record { front = front; later = drop fed.used rest; more = f.more; last = item; parts = parts; none = f.none; closing = c; are = are; said = all_said }
 
-      pub so_far_more : (rest2 : List ℕ) → closes item ≡ false → new.decoder ≡ d → d.limit ≡ s.decoder.limit → new.phase ≡ s.phase → rest2 ≡ drop fed.used rest → SoFar now piece rest2 reader before bytes items old new out0 out2
-      so_far_more rest2 c same limit phase back = record {
+      pub so_far_more : (rest2 : List ℕ) → closes item ≡ false → new.decoder ≡ d → d.limit ≡ s.decoder.limit → new.phase ≡ s.phase → rest2 ≡ drop fed.used rest
+          → new.taken ≡ count_more s.taken (comes_in (doing item)) → SoFar now piece rest2 reader before bytes items old new out0 out2
+      so_far_more rest2 c same limit phase back taken = record {
         done = front;
         parts = parts ∙ ap (λ (x : List ℕ). front ++ x) (sym back);
         more = f.more ++ item ∷ [];
@@ -206,6 +217,8 @@ module _ (now : ℕ) (piece rest : List ℕ) (reader : Reader) (before : List Da
           decoder = rw same takes.3;
           limit = rw same (limit ∙ f.lives.limit);
           phase = phase ∙ f.lives.phase;
+          taken = taken ∙ ap (λ (n : ℕ). count_more n (comes_in (doing item))) f.lives.taken ∙ one_taken (items ++ f.more) item
+              ∙ ap taken_of (append_assoc items f.more (item ∷ []));
         };
       }
 

@@ -1,3 +1,5 @@
 -- Words of private functions.
 pub mod Doings
 pub mod Living
+pub mod Reading
+pub mod Schedules

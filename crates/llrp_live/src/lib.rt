@@ -13,6 +13,18 @@
 #![tactic(auto)]
 
 mod doing;
+mod lines;
+mod moments;
 mod reader;
+mod schedule;
+mod script_lines;
+mod script_reader;
+mod starts;
 
+pub use lines::{Again, Deed, Line};
+pub use moments::{Stage, When, moment_in};
 pub use reader::{LivePhase, LiveReader};
+pub use schedule::Schedule;
+pub use script_lines::line_of;
+pub use script_reader::{LONGEST_LINE, ScriptReader};
+pub use starts::says_start;

@@ -1,13 +1,13 @@
 //! A simulated reader that serves one client, and is told each moment.
 
-ghost use Rattle.std.specs.Prelude.{◌≡◌, ◌≤◌, [], Bool, List, OnErr, OnOk, Result, ℕ};
+ghost use Rattle.std.specs.Prelude.{◌≡◌, ◌≤◌, [], Bool, IfOk, List, OnErr, OnOk, Result, ℕ};
 ghost use Rattle.llrp_stream.specs.declared.item.Item.{Item as TheItem};
 ghost use Rattle.llrp_listing.specs.declared.outcome.ToolErr.{ToolErr as TheToolErr};
 ghost use Rattle.llrp_session.specs.Calls.ReaderSteps.{event_of};
 ghost use Rattle.llrp_session.specs.ReaderMachine.{Reader as Machine};
 ghost use Rattle.llrp_tree.specs.declared.TheConstants.{MAX_LIMIT};
-ghost use Rattle.llrp_live.specs.Calls.Doings.{Dated, Happens};
-ghost use Rattle.llrp_live.specs.Private.Living.{DoesEvent, DoesItem, phase_after as the_phase_after};
+ghost use Rattle.llrp_live.specs.Calls.Doings.{Dated, Happens, comes_in, doing};
+ghost use Rattle.llrp_live.specs.Private.Living.{DoesEvent, DoesItem, count_more as the_count_more, phase_after as the_phase_after};
 
 use crate::doing::{Doing, closes, doing_of};
 use llrp_listing::{ToolErr, error_of};
@@ -35,6 +35,8 @@ pub struct LiveReader {
     core: Reader,
     decoder: Decoder,
     phase: LivePhase,
+    /// How many frames came to the reader.
+    taken: u64,
 }
 
 /// Lets an event happen to the reader at a moment, and appends what it sends; a refused event changes
@@ -59,26 +61,41 @@ fn happen(
     }
 }
 
-/// Does what is to be done for an item, and appends what is sent. The error is that memory ran out,
-/// which changes nothing.
+/// Does what is to be done for an item, and appends what is sent. Returns whether the item came to the
+/// reader. The error is that memory ran out, which changes nothing.
 fn take(
     alloc: Global,
     core: &mut Reader,
     now: u64,
     item: Item,
     out: &mut Vec<Message>,
-) -> Result<(), AllocError>
+) -> Result<bool, AllocError>
     ensures ok { OnOk result (DoesItem now item core.old core.new out.old.items
         out.new.items) }
+    ensures comes { IfOk result (λ comes. comes ≡ comes_in (doing item)) }
     ensures core_unchanged { OnErr result (core.new ≡ core.old) }
     ensures out_unchanged { OnErr result (out.new.items ≡ out.old.items) }
 {
     match doing_of(alloc, &item)? {
         Doing::Answer(reply) => {
             out.push(reply)?;
-            Ok(())
+            Ok(false)
         }
-        Doing::Happen(event) => happen(core, now, event, out),
+        Doing::Happen(event) => {
+            happen(core, now, event, out)?;
+            Ok(true)
+        }
+    }
+}
+
+/// How many frames came to the reader after one more, which did so or not.
+fn count_more(taken: u64, comes: bool) -> u64
+    ensures { result ≡ the_count_more taken comes }
+{
+    if comes {
+        taken.saturating_add(1)
+    } else {
+        taken
     }
 }
 
@@ -94,7 +111,7 @@ fn phase_after(answer: Result<bool, ToolErr>) -> LivePhase
 }
 
 impl LiveReader {
-    ghost use Rattle.llrp_live.specs.Calls.Living.{EndsAll, Feeds, Happened, IsOver, Lives};
+    ghost use Rattle.llrp_live.specs.Calls.Living.{EndsAll, Feeds, Happened, IsOver, Lives, taken_of};
     ghost use Rattle.llrp_live.specs.Private.Living.{TakesPiece};
 
     /// A reader that `Reader::new` made, of the whole standard, before anything happened. It takes no
@@ -110,7 +127,17 @@ impl LiveReader {
             core,
             decoder,
             phase: LivePhase::Open,
+            taken: 0,
         }
+    }
+
+    /// How many frames of the client came to the reader so far, at most the greatest `u64`: all but the
+    /// requests that were answered by themselves.
+    pub fn taken(&self) -> u64
+        ensures { (reader : Machine) (before : List Dated) (bytes : List ℕ) (items : List TheItem)
+            → Lives reader before bytes items self.now → result ≡ taken_of items }
+    {
+        self.taken
     }
 
     /// Lets an event happen at the moment `now`, in microseconds, and appends the messages that the
@@ -147,7 +174,8 @@ impl LiveReader {
                 return Ok(false);
             };
             let closing = closes(&item);
-            take(self.alloc, &mut self.core, now, item, out)?;
+            let comes = take(self.alloc, &mut self.core, now, item, out)?;
+            self.taken = count_more(self.taken, comes);
             if closing {
                 return Ok(true);
             }

@@ -75,6 +75,7 @@ fn a_refused_script_and_a_taken_port(rt: HostRuntime) -> Result<(), Fail> {
         all: false,
         bind: None,
         clients: None,
+        clock: None,
         ready: true,
     };
     for (script, status, line) in [

@@ -126,6 +126,15 @@ beginning; the exit status is the greatest of theirs. With --ready the line
 stands on standard error as soon as a client can connect. --bind ADDRESS listens there; LLRP has no
 password, so let it be an address that only your own machines can reach.
 
+With --clock real time passes by itself, and with real*N N times as fast: KEEPALIVEs and the ends of
+ROSpecs come when they are due, and the requests of --all are answered. A script may then have lines
+with a moment too, where TIME is such as 500ms or 2s:
+  accepted+TIME WHAT                 this long after the connection was accepted
+  started+TIME WHAT                  this long after a ROSpec first became active
+  MOMENT every TIME for TIME WHAT    again and again, beginning at such a moment
+WHAT is seen ANTENNA RSSI TEXT, tick, close (the reader closes the connection) or silent TIME (it sends
+nothing for that long, and then what it has to say).
+
 Example:
   $ printf '2 5 tick\\n' | llrp sim 5084";
 

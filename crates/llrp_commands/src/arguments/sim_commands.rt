@@ -12,8 +12,8 @@ use super::help::SIM_HELP;
 use clap::Command;
 use std::alloc::{AllocError, Global};
 
-/// Adds what test benches ask for to the command: where it listens, how many clients it serves, and
-/// that it says when it is ready.
+/// Adds what test benches ask for to the command: where it listens, how many clients it serves,
+/// by which clock, and that it says when it is ready.
 fn with_bench<'a>(
     alloc: Global,
     command: Result<Command<'a>, AllocError>,
@@ -25,10 +25,12 @@ fn with_bench<'a>(
 {
     let bind = "The address to listen on; without it 127.0.0.1";
     let clients = "How many clients to serve, one after another; without it 1, and 0 for no end";
+    let clock = "Let time pass by itself: real, or real*N for N times as fast";
     let ready = "Say on standard error where it listens, once it does";
     let with_bind = with_argument(command, text_option(alloc, "bind", "ADDRESS", bind));
     let with_clients = with_argument(with_bind, number_option(alloc, "clients", "N", clients));
-    with_argument(with_clients, plan_flag(alloc, "ready", ready))
+    let with_clock = with_argument(with_clients, text_option(alloc, "clock", "CLOCK", clock));
+    with_argument(with_clock, plan_flag(alloc, "ready", ready))
 }
 
 /// The command `sim`.

@@ -19,6 +19,8 @@ pub struct SimWords<'a> {
     pub bind: Option<&'a str>,
     /// How many clients are served, one after another; 0 for no end.
     pub clients: Option<u16>,
+    /// The clock by which time passes by itself.
+    pub clock: Option<&'a str>,
     /// Whether it says that it listens.
     pub ready: bool,
 }
@@ -33,6 +35,7 @@ pub(super) fn sim_words<'a>(inner: &ArgMatches<'a>) -> SimWords<'a>
         all: inner.get_flag("all"),
         bind: optional_text(inner, "bind"),
         clients: optional_number(inner, "clients"),
+        clock: optional_text(inner, "clock"),
         ready: inner.get_flag("ready"),
     }
 }

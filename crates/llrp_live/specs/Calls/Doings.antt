@@ -1,5 +1,5 @@
 -- What a simulated reader in real time does for the items of a client, and what it says then.
-use Rattle.std.specs.Prelude.{◌≡◌, ℕ, ◌==◌, Bool, false, is_some, if◌then◌else◌, List, [], ◌∷◌, ◌++◌, map, Option, Some, None}
+use Rattle.std.specs.Prelude.{ℕ, ◌==◌, Bool, true, false, is_some, if◌then◌else◌, List, [], ◌∷◌, ◌++◌, map, Option, Some, None}
 use Rattle.llrp_schema.specs.declared.kinds.MsgKind.{MsgKind}
 use Rattle.llrp_schema.specs.declared.kinds.MsgKind.TheVariants.{CloseConnection}
 use Rattle.llrp_schema.specs.declared.kinds.Kind.TheVariants.{Message}
@@ -40,6 +40,11 @@ answered_or_taken m None = Happens (part_taken m (own_message m))
 abbrev pub doing : Item → Doing
 doing (Msg m) = answered_or_taken m (answer_of m)
 doing (Bad id fault) = Happens (TakeBad id fault.reason)
+
+-- it comes to the reader
+abbrev pub comes_in : Doing → Bool
+comes_in (Answers reply) = false
+comes_in (Happens event) = true
 
 -- the item is CLOSE_CONNECTION
 abbrev pub closes : Item → Bool

@@ -1,5 +1,5 @@
 -- What a simulated reader in real time stands for, and what its calls make of it.
-use Rattle.std.specs.Prelude.{◌≡◌, ℕ, ◌++◌, Bool, true, false, List, [], ◌∷◌, Result, Ok, Err}
+use Rattle.std.specs.Prelude.{◌≡◌, ℕ, ◌+◌, ◌++◌, min, if◌then◌else◌, Bool, true, false, List, [], ◌∷◌, Result, Ok, Err}
 use Rattle.std.specs.List.{AllByRecursion}
 use Rattle.llrp_schema.specs.declared.kinds.KindSet.TheVariants.{Standard}
 use Rattle.llrp_tree.specs.Tree.{MessageTree}
@@ -13,7 +13,16 @@ use Rattle.llrp_listing.specs.declared.outcome.ToolErr.{ToolErr}
 use Rattle.llrp_listing.specs.declared.outcome.ToolErr.TheVariants.{Broken, Memory}
 use Rattle.llrp_live.specs.declared.reader.LiveReader.{LiveReader}
 use Rattle.llrp_live.specs.declared.reader.LivePhase.TheVariants.{Open, Closed, Failed}
-use Rattle.llrp_live.specs.Calls.Doings.{Dated, course, taken_at, closes}
+use Rattle.llrp_live.specs.Calls.Doings.{Dated, course, taken_at, closes, comes_in, doing}
+
+-- how many of these items came to the reader
+abbrev pub came : List Item → ℕ
+came [] = 0
+came (item ∷ items) = (if comes_in (doing item) then 1 else 0) + came items
+
+-- the same as a u64, where it stops at the greatest
+abbrev pub taken_of : List Item → ℕ
+taken_of items = min (came items) 18446744073709551615
 
 -- It was given the octets, of which these are the items, and did this since the reader was as it was at first; it goes on.
 pub record Lives (reader : Reader) (before : List Dated) (bytes : List ℕ) (items : List Item) (s : LiveReader) : Type 0 where
@@ -23,6 +32,7 @@ pub record Lives (reader : Reader) (before : List Dated) (bytes : List ℕ) (ite
   pub decoder : StandsIn Standard s.decoder rest
   pub limit : s.decoder.limit ≡ reader.limit
   pub phase : s.phase ≡ Open
+  pub taken : s.taken ≡ taken_of items
 
 -- one doing more: what the reader says to it was appended
 pub record Happened (d : Dated) (reader : Reader) (before : List Dated) (bytes : List ℕ) (items : List Item) (old new : LiveReader) (out0 out1 : List MessageTree) : Type 0 where

@@ -1,5 +1,5 @@
 -- Beside Calls/Living: words of private functions.
-use Rattle.std.specs.Prelude.{◌≡◌, ℕ, ◌++◌, Bool, true, false, List, Result, Ok, Err}
+use Rattle.std.specs.Prelude.{◌≡◌, ℕ, ◌+◌, ◌++◌, min, if◌then◌else◌, Bool, true, false, List, Result, Ok, Err}
 use Rattle.llrp_tree.specs.Tree.{MessageTree}
 use Rattle.llrp_stream.specs.declared.item.Item.{Item}
 use Rattle.llrp_session.specs.ReaderMachine.{Reader, ReaderEvent}
@@ -7,7 +7,7 @@ use Rattle.llrp_listing.specs.declared.outcome.ToolErr.{ToolErr}
 use Rattle.llrp_live.specs.declared.reader.LiveReader.{LiveReader}
 use Rattle.llrp_live.specs.declared.reader.LivePhase.{LivePhase}
 use Rattle.llrp_live.specs.declared.reader.LivePhase.TheVariants.{Open, Closed, Failed}
-use Rattle.llrp_live.specs.Calls.Doings.{Doing, Happens, Dated, doing, once}
+use Rattle.llrp_live.specs.Calls.Doings.{Happens, Dated, doing, once}
 use Rattle.llrp_live.specs.Calls.Living.{Feeds}
 
 -- this was done, and what is said then appended
@@ -26,6 +26,10 @@ abbrev pub phase_after : Result Bool ToolErr → LivePhase
 phase_after (Ok false) = Open
 phase_after (Ok true) = Closed
 phase_after (Err error) = Failed error
+
+-- how many came to the reader with one more, which did so or not
+abbrev pub count_more : ℕ → Bool → ℕ
+count_more taken comes = min (taken + (if comes then 1 else 0)) 18446744073709551615
 
 -- the items of a piece were taken
 abbrev pub TakesPiece : ℕ → List ℕ → LiveReader → LiveReader → List MessageTree → List MessageTree → Result Bool ToolErr → Type 0

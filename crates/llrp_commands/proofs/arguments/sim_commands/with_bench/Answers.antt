@@ -8,13 +8,16 @@ pub returns-clause-app : goal.returns-clause-app
 returns-clause-app c = λ a given.
     let bind = c.text_option.ensures in
     let clients = c.number_option.ensures in
+    let clock = c.text_option-2.ensures in
     let ready = c.plan_flag.ensures in
     let one = c.with_argument-with_bind.ensures.app a given bind.local in
     let two = c.with_argument-with_clients.ensures.app _ one clients.local in
-    let all = c.with_argument.ensures.app _ two ready.local in
+    let three = c.with_argument-with_clock.ensures.app _ two clock.local in
+    let all = c.with_argument.ensures.app _ three ready.local in
     IfOk-weaker c.with_argument.result _ _
     (λ r h.
     h
-    ∙ ap (λ (x : Rule). with_rule (with_rule (with_rule a x) (rule_of c.number_option.result)) (rule_of c.plan_flag.result)) bind.rule
-    ∙ ap (λ (x : Rule). with_rule (with_rule (with_rule a (text_option_rule (codes "bind"))) x) (rule_of c.plan_flag.result)) clients.rule
-    ∙ ap (λ (x : Rule). with_rule (with_rule (with_rule a (text_option_rule (codes "bind"))) (number_rule (codes "clients"))) x) ready.rule) all
+    ∙ ap (λ (x : Rule). with_rule (with_rule (with_rule (with_rule a x) (rule_of c.number_option.result)) (rule_of c.text_option-2.result)) (rule_of c.plan_flag.result)) bind.rule
+    ∙ ap (λ (x : Rule). with_rule (with_rule (with_rule (with_rule a (text_option_rule (codes "bind"))) x) (rule_of c.text_option-2.result)) (rule_of c.plan_flag.result)) clients.rule
+    ∙ ap (λ (x : Rule). with_rule (with_rule (with_rule (with_rule a (text_option_rule (codes "bind"))) (number_rule (codes "clients"))) x) (rule_of c.plan_flag.result)) clock.rule
+    ∙ ap (λ (x : Rule). with_rule (with_rule (with_rule (with_rule a (text_option_rule (codes "bind"))) (number_rule (codes "clients"))) (text_option_rule (codes "clock"))) x) ready.rule) all

@@ -13,5 +13,6 @@ returns c = λ name.
       reads_flag _ c.get_flag.result (has_flag _ c.get_flag.result (λ h. c.get_flag.ensures.none (all ∙ h)) (λ h. c.get_flag.ensures.value (all ∙ h)) (λ h. c.get_flag.ensures.other (all ∙ h))) c.requires.1,
       c.optional_text.ensures name,
       c.optional_number.ensures name,
+      c.optional_text-2.ensures name,
       reads_flag _ c.get_flag-2.result (has_flag _ c.get_flag-2.result (λ h. c.get_flag-2.ensures.none (ready ∙ h)) (λ h. c.get_flag-2.ensures.value (ready ∙ h)) (λ h. c.get_flag-2.ensures.other (ready ∙ h))) c.requires.3,
     )

@@ -1,7 +1,8 @@
-use Rattle.std.proofs.Common.{refl, sym, ◌∙◌, arith}
+use Rattle.std.proofs.Common.{refl, sym, ap, Bool, ◌∙◌, arith}
 use Rattle.std.proofs.lemmas.Bool.Decides.{nat_tests}
 use Rattle.std.proofs.lemmas.Result.{err_from_is_err_and}
 use Rattle.llrp_live.specs.declared.reader.LiveReader.{LiveReader}
+use Rattle.llrp_live.specs.Private.Living.{count_more}
 use Rattle.llrp_live.proofs.LiveLemmas.{so_far_none, failed, went_on, out_of_memory, closed, so_far_more, all_taken}
 use Rattle.llrp_live.proofs.reader.LiveReader.take_all.Goals as goal
 
@@ -15,27 +16,27 @@ returns-in-Err c = λ reader before bytes items h.
 
 pub returns-in_default : goal.returns-in_default
 returns-in_default c = λ reader before bytes items h.
-    let new : LiveReader = record { alloc = c.loop-rest.self.alloc; core = c.loop-rest.self.core; decoder = c.feed.new.self; phase = c.loop-rest.self.phase } in
+    let new : LiveReader = record { alloc = c.loop-rest.self.alloc; core = c.loop-rest.self.core; decoder = c.feed.new.self; phase = c.loop-rest.self.phase; taken = c.loop-rest.self.taken } in
     went_on c.args.now c.args.piece.now c.loop-rest.rest.now reader before bytes items c.args.self.now c.loop-rest.self c.args.out.now.items c.loop-rest.out.items (c.loop-rest.invariant reader before bytes items h)
-    c.in-Ok.fed new c.in-Ok.ensures.stands_in c.in_default.is c.in-Ok.ensures.limit refl refl
+    c.in-Ok.fed new c.in-Ok.ensures.stands_in c.in_default.is c.in-Ok.ensures.limit refl refl refl
 
-pub returns-in_err-take : goal.returns-in_err-take
-returns-in_err-take c = λ reader before bytes items h.
+pub returns-in_err-comes : goal.returns-in_err-comes
+returns-in_err-comes c = λ reader before bytes items h.
     let p = err_from_is_err_and c.from_residual.result c.from_residual.ensures.1 in
     rw (p.1, p.2) (out_of_memory c.args.now c.args.piece.now c.loop-rest.rest.now reader before bytes items c.args.self.now c.loop-rest.self c.args.out.now.items c.loop-rest.out.items (c.loop-rest.invariant reader before bytes items h)
-    c.in-Ok.fed c.in-Some.item c.feed.new.self c.in-Ok.ensures.stands_in c.in-Some.is c.loop-rest.self c.take.new.out.items c.in_err-take.ensures.out_unchanged)
+    c.in-Ok.fed c.in-Some.item c.feed.new.self c.in-Ok.ensures.stands_in c.in-Some.is c.loop-rest.self c.take.new.out.items c.in_err-comes.ensures.out_unchanged)
 
 pub returns-then-closing : goal.returns-then-closing
 returns-then-closing c = λ reader before bytes items h.
-    let new : LiveReader = record { alloc = c.loop-rest.self.alloc; core = c.take.new.core; decoder = c.feed.new.self; phase = c.loop-rest.self.phase } in
+    let new : LiveReader = record { alloc = c.loop-rest.self.alloc; core = c.take.new.core; decoder = c.feed.new.self; phase = c.loop-rest.self.phase; taken = c.loop-rest.self.taken } in
     closed c.args.now c.args.piece.now c.loop-rest.rest.now reader before bytes items c.args.self.now c.loop-rest.self c.args.out.now.items c.loop-rest.out.items (c.loop-rest.invariant reader before bytes items h)
-    c.in-Ok.fed c.in-Some.item c.feed.new.self c.in-Ok.ensures.stands_in c.in-Some.is new c.take.new.out.items c.in_ok-take.ensures.ok (sym c.closes-closing.ensures ∙ c.if-closing.true)
+    c.in-Ok.fed c.in-Some.item c.feed.new.self c.in-Ok.ensures.stands_in c.in-Some.is new c.take.new.out.items c.in_ok-comes.ensures.ok (sym c.closes-closing.ensures ∙ c.if-closing.true)
 
 pub loop-rest-preserved : goal.loop-rest-preserved
 loop-rest-preserved c = λ reader before bytes items h.
-    let new : LiveReader = record { alloc = c.loop-rest.self.alloc; core = c.take.new.core; decoder = c.feed.new.self; phase = c.loop-rest.self.phase } in
+    let new : LiveReader = record { alloc = c.loop-rest.self.alloc; core = c.take.new.core; decoder = c.feed.new.self; phase = c.loop-rest.self.phase; taken = c.count_more-self.result } in
     so_far_more c.args.now c.args.piece.now c.loop-rest.rest.now reader before bytes items c.args.self.now c.loop-rest.self c.args.out.now.items c.loop-rest.out.items (c.loop-rest.invariant reader before bytes items h)
-    c.in-Ok.fed c.in-Some.item c.feed.new.self c.in-Ok.ensures.stands_in c.in-Some.is new c.take.new.out.items c.in_ok-take.ensures.ok c.split_at.result.1.now (sym c.closes-closing.ensures ∙ c.if-closing.false) refl c.in-Ok.ensures.limit refl c.split_at.ensures.back
+    c.in-Ok.fed c.in-Some.item c.feed.new.self c.in-Ok.ensures.stands_in c.in-Some.is new c.take.new.out.items c.in_ok-comes.ensures.ok c.split_at.result.1.now (sym c.closes-closing.ensures ∙ c.if-closing.false) refl c.in-Ok.ensures.limit refl c.split_at.ensures.back (c.count_more-self.ensures ∙ ap (λ (b : Bool). count_more c.loop-rest.self.taken b) c.in_ok-comes.ensures.comes)
 
 pub returns : goal.returns
 returns c = λ reader before bytes items h.
