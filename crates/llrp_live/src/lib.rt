@@ -2,11 +2,12 @@
 //!
 //! Use it where time passes by itself, as in a test bench. A [`LiveReader`] is given the client's octets as they come, and other
 //! events ([`llrp_session::ReaderIn`]): that a client connected, that a tag is seen, that time has passed. It appends the messages
-//! that the reader sends. It takes the messages of the whole standard: some requests outside the profile are answered
-//! ([`llrp_session::answer`]), and of every other message the reader takes what the profile has of it.
+//! that the reader sends. It takes the messages of the whole standard. Requests about versions are answered, and a message of another
+//! version than that in use is refused ([`llrp_versions::hear`]). Of messages outside the profile some are answered from a file
+//! ([`llrp_answers::Answers`]) and some by themselves ([`llrp_session::answer`]); of every other the reader takes what the profile has of it.
 //!
 //! ```
-//! let mut reader = LiveReader::new(alloc, Reader::new(alloc, 65_536, 1));
+//! let mut reader = LiveReader::new(alloc, Reader::new(alloc, 65_536, 1), Answers::new(alloc));
 //! reader.happen(now, ReaderIn::Connect, &mut sent)?;
 //! let has_closed = reader.feed(now, octets, &mut sent)?;
 //! ```

@@ -1,20 +1,21 @@
 //! A simulated reader that serves one client, and is told each moment.
 
-ghost use Rattle.std.specs.Prelude.{◌≡◌, ◌≤◌, [], Bool, IfOk, List, OnErr, OnOk, Result, ℕ};
+ghost use Rattle.std.specs.Prelude.{◌≡◌, ◌≤◌, ◌++◌, [], Bool, IfOk, List, OnErr, OnOk, Result, ℕ};
 ghost use Rattle.llrp_stream.specs.declared.item.Item.{Item as TheItem};
 ghost use Rattle.llrp_listing.specs.declared.outcome.ToolErr.{ToolErr as TheToolErr};
 ghost use Rattle.llrp_session.specs.Calls.ReaderSteps.{event_of};
-ghost use Rattle.llrp_session.specs.ReaderMachine.{Reader as Machine};
 ghost use Rattle.llrp_tree.specs.declared.TheConstants.{MAX_LIMIT};
-ghost use Rattle.llrp_live.specs.Calls.Doings.{Dated, Happens, comes_in, doing};
-ghost use Rattle.llrp_live.specs.Private.Living.{DoesEvent, DoesItem, count_more as the_count_more, phase_after as the_phase_after};
+ghost use Rattle.llrp_live.specs.Calls.Doings.{Dated, Happens};
+ghost use Rattle.llrp_live.specs.Private.Living.{DoesEvent, DoesItem, IsTaken, count_more as the_count_more, phase_after as the_phase_after};
 
 use crate::doing::{Doing, closes, doing_of};
+use llrp_answers::Answers;
 use llrp_listing::{ToolErr, error_of};
 use llrp_schema::KindSet;
 use llrp_session::{Reader, ReaderIn, StepFault};
 use llrp_stream::{Decoder, End, Fed, Item};
 use llrp_tree::Message;
+use llrp_versions::Version;
 use std::alloc::{AllocError, Global};
 
 /// How far a client is served.
@@ -37,6 +38,8 @@ pub struct LiveReader {
     phase: LivePhase,
     /// How many frames came to the reader.
     taken: u64,
+    answers: Answers,
+    version: Version,
 }
 
 /// Lets an event happen to the reader at a moment, and appends what it sends; a refused event changes
@@ -61,31 +64,42 @@ fn happen(
     }
 }
 
-/// Does what is to be done for an item, and appends what is sent. Returns whether the item came to the
-/// reader. The error is that memory ran out, which changes nothing.
+/// What an item was for a reader: whether it came to it, and the version that is in use then.
+#[derive(Clone, Copy)]
+struct Taken {
+    comes: bool,
+    version: Version,
+}
+
+/// Does what is to be done for an item, where this version is in use, and appends what is sent. The
+/// error is that memory ran out, which changes nothing.
 fn take(
     alloc: Global,
+    answers: &Answers,
+    version: Version,
     core: &mut Reader,
     now: u64,
     item: Item,
     out: &mut Vec<Message>,
-) -> Result<bool, AllocError>
-    ensures ok { OnOk result (DoesItem now item core.old core.new out.old.items
-        out.new.items) }
-    ensures comes { IfOk result (λ comes. comes ≡ comes_in (doing item)) }
+) -> Result<Taken, AllocError>
+    ensures ok { OnOk result (DoesItem now answers.now.pairs.items version item core.old core.new
+        out.old.items out.new.items) }
+    ensures taken { IfOk result (IsTaken answers.now.pairs.items version item) }
     ensures core_unchanged { OnErr result (core.new ≡ core.old) }
     ensures out_unchanged { OnErr result (out.new.items ≡ out.old.items) }
 {
-    match doing_of(alloc, &item)? {
-        Doing::Answer(reply) => {
-            out.push(reply)?;
-            Ok(false)
+    let (doing, version) = doing_of(alloc, answers, version, &item)?;
+    let comes = match doing {
+        Doing::Answer(mut replies) => {
+            out.append(&mut replies)?;
+            false
         }
         Doing::Happen(event) => {
             happen(core, now, event, out)?;
-            Ok(true)
+            true
         }
-    }
+    };
+    Ok(Taken { comes, version })
 }
 
 /// How many frames came to the reader after one more, which did so or not.
@@ -111,15 +125,15 @@ fn phase_after(answer: Result<bool, ToolErr>) -> LivePhase
 }
 
 impl LiveReader {
-    ghost use Rattle.llrp_live.specs.Calls.Living.{EndsAll, Feeds, Happened, IsOver, Lives, taken_of};
+    ghost use Rattle.llrp_live.specs.Calls.Living.{Begun, EndsAll, Feeds, Happened, IsOver, Lives, begun, taken_of};
     ghost use Rattle.llrp_live.specs.Private.Living.{TakesPiece};
 
-    /// A reader that `Reader::new` made, of the whole standard, before anything happened. It takes no
-    /// memory.
-    pub fn new(alloc: Global, core: Reader) -> LiveReader
+    /// A reader that `Reader::new` made, of the whole standard, before anything happened, which has
+    /// these answers to messages that the profile does not have. It takes no memory.
+    pub fn new(alloc: Global, core: Reader, answers: Answers) -> LiveReader
         requires least { 10 ≤ core.limit }
         requires most { core.limit ≤ MAX_LIMIT }
-        ensures { Lives core [] [] [] result }
+        ensures { Lives (begun core answers.pairs.items) [] [] [] result }
     {
         let decoder = Decoder::new_in(alloc, KindSet::Standard, core.limit());
         LiveReader {
@@ -128,14 +142,16 @@ impl LiveReader {
             decoder,
             phase: LivePhase::Open,
             taken: 0,
+            answers,
+            version: Version::First,
         }
     }
 
     /// How many frames of the client came to the reader so far, at most the greatest `u64`: all but the
     /// requests that were answered by themselves.
     pub fn taken(&self) -> u64
-        ensures { (reader : Machine) (before : List Dated) (bytes : List ℕ) (items : List TheItem)
-            → Lives reader before bytes items self.now → result ≡ taken_of items }
+        ensures { (b : Begun) (before : List Dated) (bytes : List ℕ) (items : List TheItem)
+            → Lives b before bytes items self.now → result ≡ taken_of b.answers items }
     {
         self.taken
     }
@@ -149,9 +165,9 @@ impl LiveReader {
         event: ReaderIn,
         out: &mut Vec<Message>,
     ) -> Result<(), AllocError>
-        ensures happens { OnOk result ((reader : Machine) (before : List Dated) (bytes : List ℕ)
-            (items : List TheItem) → Lives reader before bytes items self.old
-            → Happened (record { now = now; doing = Happens (event_of event) }) reader before bytes
+        ensures happens { OnOk result ((b : Begun) (before : List Dated) (bytes : List ℕ)
+            (items : List TheItem) → Lives b before bytes items self.old
+            → Happened (record { now = now; doing = Happens (event_of event) }) b before bytes
             items self.old self.new out.old.items out.new.items) }
         ensures self_unchanged { OnErr result (self.new ≡ self.old) }
         ensures out_unchanged { OnErr result (out.new.items ≡ out.old.items) }
@@ -174,8 +190,10 @@ impl LiveReader {
                 return Ok(false);
             };
             let closing = closes(&item);
-            let comes = take(self.alloc, &mut self.core, now, item, out)?;
-            self.taken = count_more(self.taken, comes);
+            let (answers, version) = (&self.answers, self.version);
+            let taken = take(self.alloc, answers, version, &mut self.core, now, item, out)?;
+            self.taken = count_more(self.taken, taken.comes);
+            self.version = taken.version;
             if closing {
                 return Ok(true);
             }
@@ -207,8 +225,8 @@ impl LiveReader {
     /// How the client's octets end if no more follow: `Clean` after a whole frame, and `Rest` within
     /// one.
     pub fn finish(&self) -> End
-        ensures { (reader : Machine) (before : List Dated) (bytes : List ℕ) (items : List TheItem)
-            → Lives reader before bytes items self.now → EndsAll reader.limit bytes items result }
+        ensures { (b : Begun) (before : List Dated) (bytes : List ℕ) (items : List TheItem)
+            → Lives b before bytes items self.now → EndsAll b.reader.limit bytes items result }
     {
         self.decoder.finish()
     }

@@ -1,5 +1,6 @@
 //! A simulated reader in real time, of the whole standard.
 
+use llrp_answers::Answers;
 use llrp_live::LiveReader;
 use llrp_session::{Reader, ReaderIn};
 use llrp_tool::ToolErr;
@@ -24,10 +25,31 @@ const CONFIGURED: &str = "040D0000001200000001 011F000800000000";
 /// The first KEEPALIVE.
 const KEEPALIVE: &str = "043E0000000A00000002";
 
-/// GET_SUPPORTED_VERSION and its answer.
+/// GET_SUPPORTED_VERSION and its answer: a connection begins in version 1, and 2 is the greatest.
 const GET_VERSION: &str = "082E0000000A00000007";
 
-const VERSION: &str = "083800000014000000070202 011F000800000000";
+const VERSION: &str = "083800000014000000070102 011F000800000000";
+
+/// SET_PROTOCOL_VERSION 2 and 1, and their responses; KEEPALIVE_ACK of both versions, and ERROR_MESSAGE 110 for the one that is not in use;
+/// GET_ROSPECS of version 2, and its response.
+const SET_TWO: &str = "082F0000000B0000000C02";
+
+const SET_ONE: &str = "082F0000000B0000000D01";
+
+const ACK_OF_TWO: &str = "08480000000A0000000E";
+
+const ACK_OF_ONE: &str = "04480000000A0000000F";
+
+const GET_ROSPECS: &str = "081A0000000A00000011";
+
+const ROSPECS: &str = "082400000012 00000011 011F000800000000";
+
+/// What the reader answers by a file, beside its own answers: CUSTOM_MESSAGE of subtype 23, and the answer of subtype 24.
+const FILE: &[u8] = b"? 0 CUSTOM_MESSAGE * * 25882 23 *\n0 CUSTOM_MESSAGE 1 0 25882 24 x00\n";
+
+const ASKED: &str = "07FF0000000F000000100000651A17";
+
+const TOLD: &str = "07FF00000010000000100000651A1800";
 
 /// ADD_ROSPEC without a ROSpec is no message; CUSTOM_MESSAGE is one that the profile does not have; ERROR_MESSAGE 100 and 109.
 const NO_ROSPEC: &str = "04140000000A00000009";
@@ -51,7 +73,7 @@ struct Row {
     closes: bool,
 }
 
-static ROWS: [Row; 6] = [
+static ROWS: [Row; 12] = [
     Row {
         up: CONFIGURE,
         down: &[CONFIGURED],
@@ -77,6 +99,43 @@ static ROWS: [Row; 6] = [
         closes: false,
     },
     Row {
+        up: ASKED,
+        down: &[TOLD],
+        later: &["043E0000000A00000006"],
+        closes: false,
+    },
+    // Version 2 is refused until it is agreed, and then version 1; own messages have the version of the last message that was taken.
+    Row {
+        up: ACK_OF_TWO,
+        down: &["0464000000120000000E 011F0008006E0000"],
+        later: &["043E0000000A00000007"],
+        closes: false,
+    },
+    Row {
+        up: SET_TWO,
+        down: &["0839000000120000000C 011F000800000000"],
+        later: &["043E0000000A00000008"],
+        closes: false,
+    },
+    Row {
+        up: ACK_OF_ONE,
+        down: &["0464000000120000000F 011F0008006E0000"],
+        later: &["043E0000000A00000009"],
+        closes: false,
+    },
+    Row {
+        up: GET_ROSPECS,
+        down: &[ROSPECS],
+        later: &["083E0000000A0000000A"],
+        closes: false,
+    },
+    Row {
+        up: SET_ONE,
+        down: &["0839000000120000000D 011F000800000000"],
+        later: &["083E0000000A0000000B"],
+        closes: false,
+    },
+    Row {
         up: CLOSE,
         down: &[CLOSED],
         later: &[],
@@ -97,7 +156,7 @@ fn llrp_live_served(
     octets: &[u8],
 ) -> Result<(bool, Vec<Message>), ToolErr> {
     let mut sent: Vec<Message> = Vec::new(alloc);
-    let mut reader = LiveReader::new(alloc, Reader::new(alloc, 65_536, 1));
+    let mut reader = LiveReader::new(alloc, Reader::new(alloc, 65_536, 1), Answers::new(alloc));
     reader.happen(now, ReaderIn::Connect, &mut sent)?;
     let has_closed = reader.feed(now, octets, &mut sent)?;
     Ok((has_closed, sent))
@@ -134,7 +193,10 @@ fn is_served(
 
 /// Whether a connection at the first moment is served as the rows say.
 fn are_served(alloc: Global, cut: usize) -> Result<bool, ToolErr> {
-    let mut reader = LiveReader::new(alloc, Reader::new(alloc, 65_536, 1));
+    let Ok(answers) = Answers::read(alloc, FILE) else {
+        return Ok(false);
+    };
+    let mut reader = LiveReader::new(alloc, Reader::new(alloc, 65_536, 1), answers);
     let mut sent: Vec<Message> = Vec::new(alloc);
     reader.happen(FIRST, ReaderIn::Connect, &mut sent)?;
     if !are_spelled(alloc, sent.as_slice(), &[ACCEPTED])? {

@@ -7,5 +7,5 @@ use Rattle.llrp_live.specs.Calls.Doings.{Doing, Answers, Happens}
 
 -- what the code has for a doing
 abbrev pub IsDoing : Code → Doing → Type 0
-IsDoing (code.Answer m) d = d ≡ Answers m
+IsDoing (code.Answer replies) d = d ≡ Answers replies.items
 IsDoing (code.Happen event) d = d ≡ Happens (event_of event)
