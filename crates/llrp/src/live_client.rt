@@ -3,6 +3,7 @@
 use crate::frame_ends::FrameEnds;
 use crate::live_clock::LiveClock;
 use crate::network::FIRST_ID;
+use llrp_answers::Answers;
 use llrp_commands::LIMIT;
 use llrp_listing::ToolErr;
 use llrp_live::{Deed, Line, LiveReader, Schedule, Stage, says_start};
@@ -201,7 +202,7 @@ pub fn serve_live(
         alloc,
         clock,
         stream,
-        reader: LiveReader::new(alloc, core),
+        reader: LiveReader::new(alloc, core, Answers::new(alloc)),
         ends: FrameEnds::new(alloc),
         schedule: Schedule::new(alloc, lines)?,
         stage: Stage {
