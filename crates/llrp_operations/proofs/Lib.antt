@@ -1,3 +1,4 @@
+pub mod CourseLawLemmas
 pub mod LineLemmas
 pub mod ResultLemmas
 pub mod VerifiedLemmas

@@ -1,6 +1,7 @@
 -- What public contracts say that no promise of README rests on.
 pub mod Changes
 pub mod Course
+pub mod CourseLaws
 pub mod Inventory
 pub mod Laws
 pub mod Lines

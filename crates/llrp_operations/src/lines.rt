@@ -108,12 +108,7 @@ fn words_of(said: Option<&Node>) -> &[u8]
 }
 
 /// Appends words in hexadecimal digits between these texts, if there are some.
-fn push_words(
-    text: &mut Text,
-    before: &[u8],
-    words: &[u8],
-    after: &[u8],
-) -> Result<(), AllocError>
+fn push_words(text: &mut Text, before: &[u8], words: &[u8], after: &[u8]) -> Result<(), AllocError>
     ensures { OnOk result (text.new ≡ text.old ++ lines.words_text before.now words.now after.now) }
 {
     if words.is_empty() {

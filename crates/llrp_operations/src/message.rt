@@ -68,12 +68,7 @@ fn answer_kind(demand: Demand) -> MsgKind
 }
 
 /// A message of these parts.
-fn message(
-    kind: MsgKind,
-    id: u32,
-    fields: &[u128],
-    children: Vec<Node>,
-) -> Result<Message, SpecErr>
+fn message(kind: MsgKind, id: u32, fields: &[u128], children: Vec<Node>) -> Result<Message, SpecErr>
     ensures { IfOk result (λ m. m ≡ messages.message kind id fields.now children.items) }
 {
     match Message::new(1, id, kind, fields, Nodes::new(children)) {
@@ -103,11 +98,7 @@ fn adding(alloc: Global, demand: Demand, spec: Node) -> Result<Message, SpecErr>
 }
 
 /// The message of a demand.
-fn demand_message(
-    alloc: Global,
-    demand: Demand,
-    request: Request<'_>,
-) -> Result<Message, SpecErr>
+fn demand_message(alloc: Global, demand: Demand, request: Request<'_>) -> Result<Message, SpecErr>
     ensures { IfOk result (λ m. m ≡ messages.demand_message demand request.entry) }
 {
     match demand {
@@ -131,11 +122,7 @@ fn demand_message(
 
 /// The message of LLRP 1.0.1 that says something: of a request whose ROSpec is the inventory's, and whose EPC is that of the tag that is
 /// meant now ([`Course::target`]). The errors are as of [`access_spec`].
-pub fn message_of(
-    alloc: Global,
-    saying: Saying,
-    request: Request<'_>,
-) -> Result<Message, SpecErr>
+pub fn message_of(alloc: Global, saying: Saying, request: Request<'_>) -> Result<Message, SpecErr>
     ensures { IfOk result (λ m. m ≡ messages.message_of saying request.entry) }
 {
     match saying {
@@ -181,7 +168,10 @@ fn answer_in(stage: Stage, message: &Message) -> Option<u16>
 fn attempt_in(message: &Message) -> Option<u16>
     ensures { result ≡ messages.attempt_in message.now }
 {
-    let data = first(ParamKind::WholeReaderEventNotificationData, message.children())?;
+    let data = first(
+        ParamKind::WholeReaderEventNotificationData,
+        message.children(),
+    )?;
     let attempt = first(ParamKind::WholeConnectionAttemptEvent, data.children())?;
     let kind = ParamKind::WholeConnectionAttemptEvent;
     Some(field(kind, Some(attempt), 0).min(65_535) as u16)

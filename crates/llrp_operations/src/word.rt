@@ -218,3 +218,6 @@ pub fn lock_of(text: &[u8]) -> Result<Operation, WordErr>
     };
     Ok(Operation::Lock { field, manner })
 }
+
+#[cfg(test)]
+mod tests;

@@ -4,7 +4,16 @@ use std::test::*;
 #[test]
 fn words_say_operations(rt: HostRuntime) {
     let read = read_of(b"tid:0:6");
-    assert!(rt; matches!(&read, Ok(Operation::Read { bank: Bank::Tid, pointer: 0, count: 6 })));
+    assert!(rt;
+        matches!(
+            &read,
+            Ok(Operation::Read {
+                bank: Bank::Tid,
+                pointer: 0,
+                count: 6
+            })
+        )
+    );
     let Ok(Operation::Lock { field, manner }) = lock_of(b"user=permanent-lock") else {
         panic!(rt; "no lock");
     };
