@@ -1,0 +1,111 @@
+//! Listings with labels: worked examples, the example of `llrp_labels`, and lines that are refused.
+
+use llrp_labels::{
+    LabelErr, LabelFault, Labels, PlainErr, label_text, list_labelled, plain_text, read_plain,
+    run_show_labelled,
+};
+use llrp_listing::Verdict;
+use llrp_schema::KindSet;
+use llrp_stream::{Input, Output};
+use std::test::Fail;
+use tag_schemes::SchemeFault;
+use tag_uri::UriFault;
+
+/// The frame of a report with the words of an SGTIN-96 and of a GIAI-96, examples of the EPC Tag Data Standard 1.13, appendix E.
+const STREAM: &str =
+    "043D0000002C0000000100F000118D3074257BF7194E4000001A8500F000118D3474257BF40000000000162E";
+
+/// Its listing.
+const LISTING: &[u8] =
+    b"0 RO_ACCESS_REPORT 1 1\n1 TagReportData\n2 EPC-96 urn:epc:tag:sgtin-96:3.0614141.812345.6789\n1 TagReportData\n2 EPC-96 urn:epc:raw:96.x3474257BF40000000000162E\n";
+
+/// The same with both labels.
+const LABELLED: &[u8] =
+    b"0 RO_ACCESS_REPORT 1 1\n1 TagReportData\n2 EPC-96 urn:epc:tag:sgtin-96:3.0614141.812345.6789\tgtin 80614141123458 6789\n1 TagReportData\n2 EPC-96 urn:epc:tag:giai-96:3.0614141.5678\n";
+
+#[test]
+fn llrp_labels_example(rt: HostRuntime) -> Result<(), Fail> {
+    let alloc = rt.alloc();
+    let listing: &[u8] = b"2 EPC-96 urn:epc:tag:sgtin-96:3.0614141.812345.6789\n";
+    let expected: &[u8] =
+        b"2 EPC-96 urn:epc:tag:sgtin-96:3.0614141.812345.6789\tgtin 80614141123458 6789\n";
+    let labels = Labels {
+        schemes: false,
+        keys: true,
+    };
+    let labelled = label_text(alloc, labels, listing)?;
+    assert!(rt; labelled.as_slice() == expected);
+    match plain_text(alloc, labels, labelled.as_slice()) {
+        Ok(plain) => assert!(rt; plain.as_slice() == listing),
+        Err(_) => assert!(rt; false),
+    }
+    Ok(())
+}
+
+#[test]
+fn shown_and_read_back(rt: HostRuntime) -> Result<(), Fail> {
+    let alloc = rt.alloc();
+    let labels = Labels {
+        schemes: true,
+        keys: true,
+    };
+    let mut input = Input::new(STREAM.as_bytes());
+    let mut output = Output::new(Vec::new(alloc));
+    let shown = run_show_labelled(
+        alloc,
+        labels,
+        true,
+        KindSet::Profile,
+        &mut input,
+        &mut output,
+        65_536,
+    );
+    assert!(rt; shown == Ok(Verdict::Lawful));
+    let labelled = output.into_inner();
+    assert!(rt; labelled.as_slice() == LABELLED);
+    match read_plain(alloc, labels, &mut Input::new(LABELLED)) {
+        Ok(plain) => assert!(rt; plain.as_slice() == LISTING),
+        Err(_) => assert!(rt; false),
+    }
+    let mut nothing = Output::new(Vec::new(alloc));
+    let listed = list_labelled(alloc, labels, KindSet::Profile, &[], &mut nothing, 65_536);
+    assert!(rt; listed == Ok(Verdict::Lawful));
+    assert!(rt; nothing.into_inner().is_empty());
+    Ok(())
+}
+
+#[test]
+fn refused_lines(rt: HostRuntime) -> Result<(), Fail> {
+    let alloc = rt.alloc();
+    let labels = Labels {
+        schemes: true,
+        keys: true,
+    };
+    let wrong: &[u8] =
+        b"0 KEEPALIVE 2 7\n2 EPC-96 urn:epc:tag:sgtin-96:3.0614141.812345.6789\tgtin 80614141123458 6788\n";
+    match plain_text(alloc, labels, wrong) {
+        Ok(_) => assert!(rt; false),
+        Err(error) => assert!(rt;
+            error
+                == PlainErr::Line {
+                    line: 2,
+                    fault: LabelFault::Key
+                }
+        ),
+    }
+    let raw = LabelFault::Epc(SchemeFault::Tag(UriFault::RawOfLawful));
+    match read_plain(alloc, labels, &mut Input::new(LISTING)) {
+        Ok(_) => assert!(rt; false),
+        Err(error) => assert!(rt;
+            error
+                == LabelErr::Line {
+                    line: 5,
+                    fault: raw
+                }
+        ),
+    }
+    let (name, inner) = raw.names();
+    assert_eq!(rt; name, "Epc ");
+    assert_eq!(rt; inner, "RawOfLawful");
+    Ok(())
+}
