@@ -1,6 +1,7 @@
 #!/usr/bin/env python3
 """Compares the keys that `epc --list` makes of random tag URIs with what Debian's python3-stdnum finds in them: their check digits, and the
-values of their element strings. Each key is also read back to the word of its tag URI, and some are answered as objects of JSON.
+values of their element strings. Each key is also read back to the word of its tag URI, some are answered as objects of JSON, and those of a
+listing that `show --keys` prints are compared and read back by `encode --keys`.
 
 usage: tests/keys.py [PROGRAM]
 
@@ -18,7 +19,9 @@ from parts.repository import program_given
 EACH = 300
 # How many of them are answered as objects of JSON, for each length of the company prefix.
 OBJECTS = 3
-LEAST = 6 * EACH * 3 + 6 * 7 * OBJECTS * 2
+LEAST = 6 * EACH * 3 + 6 * 7 * (OBJECTS * 2 + 3)
+# The names of the keys of those schemes.
+NAMES = {"sgtin": "gtin", "sscc": "sscc", "sgln": "gln", "grai": "grai", "gdti": "gdti", "gsrn": "gsrn"}
 # The digits of company prefix and reference together, the digits of the reference that come first in the key, the application identifier and
 # what comes before the key, and that of the serial number, by schemes (TDS 1.13, sections 7 and 14).
 SCHEMES = {
@@ -92,6 +95,29 @@ def objects(program, company_digits, elements, told):
         yield f"the object of {wrong}: {refused}", refused == {"refused": "Check", "right": digit}
 
 
+def listings(program, scheme, tags, told):
+    """Yields whether `show --keys` puts the keys after the EPCs of a report, `encode --keys` reads that, and refuses another check digit."""
+    texts = [f"2 EPC-96 {tag}" for tag, _, _ in tags]
+    # (a GLN without extension has an extension of 0, which the key leaves out; these have others)
+    keys = [f"{NAMES[scheme]} {front}{digit}{f' {number}' if number else ''}" for (_, front, number), (digit, _) in zip(tags, told)]
+    listing, labelled = ("".join(f"1 TagReportData\n{line}\n" for line in lines) for lines in (texts, [f"{text}\t{key}" for text, key in zip(texts, keys)]))
+    head = "0 RO_ACCESS_REPORT 1 1\n"
+    stream = run(program, "encode", input=(head + listing).encode()).stdout
+    shown = run(program, "show", "--keys", input=stream).stdout.decode()
+    yield f"the keys of a listing of {scheme}", shown == head + labelled
+    yield f"the stream of a listing of {scheme} with keys", run(program, "encode", "--keys", input=shown.encode()).stdout == stream
+    digit = told[0][0]
+    at = shown.index("\t") + len(NAMES[scheme]) + 1 + len(tags[0][1])
+    wrong = shown[: at + 1] + str((int(digit) + 1) % 10) + shown[at + 2 :]
+    done = run(program, "encode", "--keys", input=wrong.encode())
+    yield f"a wrong key in a listing of {scheme}: {done.stderr}", (done.stdout, done.stderr, done.returncode) == (b"", b"llrp: line 3: Epc Key\n", 1)
+
+
+def run(program, *words, input):
+    """Runs a command over octets."""
+    return subprocess.run([program, *words], input=input, capture_output=True, timeout=60)
+
+
 def checks(program):
     """Yields whether each key is the one that its tag URI and the judge say, and is read back."""
     for scheme, (_, _, start, mark) in SCHEMES.items():
@@ -101,13 +127,15 @@ def checks(program):
             elements, words = (answers(program, texts, "--to", form) for form in ("element", "hex"))
             # (the judge has no rule for a serial number directly after the check digit)
             asked = [(front, element if scheme in ("sgtin", "sscc") else "") for (_, front, _), element in zip(tags, elements)]
-            found = zip(tags, elements, words, judged(asked), words_of(program, tags, elements, company_digits))
-            for (tag, front, number), element, word, (digit, told), back in found:
+            told = judged(asked)
+            yield from listings(program, scheme, tags, told)
+            found = zip(tags, elements, words, told, words_of(program, tags, elements, company_digits))
+            for (tag, front, number), element, word, (digit, values_told), back in found:
                 yield f"the key of {tag}: {element}", element == start + front + digit + (mark + number if number else "")
                 values = {start[1:3]: front + digit, **({"21": number} if number else {})}
-                yield f"the values of {element}: {told}", not told or told == values
+                yield f"the values of {element}: {values_told}", not values_told or values_told == values
                 yield f"the word of {element}", word == back
-            yield from objects(program, company_digits, elements, judged(asked))
+            yield from objects(program, company_digits, elements, told)
 
 
 if __name__ == "__main__":
