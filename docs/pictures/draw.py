@@ -121,6 +121,7 @@ CRATES = {
     "llrp_access": "AccessSpecs on tags",
     "llrp_listing": "show, encode, epc",
     "llrp_keys": "keys and lists of texts",
+    "llrp_labels": "keys in listings",
     "llrp_texts": "listings in memory",
     "llrp_json": "lines of JSON",
     "llrp_json_read": "JSON read back",
