@@ -21,7 +21,7 @@ _llrp() {
         words='show encode epc fields explain sim inventory loop watch stop ask access help --help --version'
     else
         case ${COMP_WORDS[1]} in
-            show) words='--hex --all --json --names --keys --schemes --limit --help' ;;
+            show) words='--hex --all --json --names --keys --schemes --segments --limit --help' ;;
             encode) words='--hex --all --json --keys --schemes --limit --help' ;;
             inventory) words='--rospec --every --polls --reports --check --clean --json --all --timeout --limit --verbose --help' ;;
             loop) words='--rospec --every --polls --reports --check --clean --json --all --help' ;;

@@ -21,6 +21,7 @@ complete -c llrp -n '__fish_seen_subcommand_from show encode' -l json -d 'Lines 
 complete -c llrp -n '__fish_seen_subcommand_from show encode' -l keys -d 'The key of each EPC after it'
 complete -c llrp -n '__fish_seen_subcommand_from show encode' -l schemes -x -a all -d 'The schemes of EPCs'
 complete -c llrp -n '__fish_seen_subcommand_from show' -l names -x -a 'profile standard' -d 'The names of fields with --json'
+complete -c llrp -n '__fish_seen_subcommand_from show' -l segments -x -d 'Lines of tshark; the port of the reader'
 complete -c llrp -n '__fish_seen_subcommand_from sim' -l all -d 'Requests of general clients besides'
 complete -c llrp -n '__fish_seen_subcommand_from sim' -l bind -x -d 'The address to listen on'
 complete -c llrp -n '__fish_seen_subcommand_from sim' -l clients -x -d 'How many clients to serve'

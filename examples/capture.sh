@@ -7,6 +7,10 @@
 set -eu
 file=$1
 port=${2:-5084}
-[ $# -lt 2 ] && shift || shift 2
+if [ $# -lt 2 ]; then
+    shift
+else
+    shift 2
+fi
 tshark -n -r "$file" -o tcp.desegment_tcp_streams:FALSE -Y "tcp.port == $port" -T fields -e frame.time_epoch -e tcp.stream -e ip.src \
     -e ipv6.src -e tcp.srcport -e tcp.flags -e tcp.seq -e tcp.payload | "${LLRP:-llrp}" show --segments "$port" "$@"

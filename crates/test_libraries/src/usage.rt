@@ -31,12 +31,13 @@ Arguments:
   [FILE]...  The files to read; without one, and for -, standard input
 
 Options:
-      --hex          Read hexadecimal digits in place of bytes
-      --all          Take every message and parameter of LLRP 1.1
-      --limit <N>    The most octets that a message may have [default: 65536]
-      --json         Write lines of JSON in place of the listing
-      --names <SET>  The names of fields with --json: those of the profile, or of the standard
-  -h, --help         Print help
+      --hex              Read hexadecimal digits in place of bytes
+      --all              Take every message and parameter of LLRP 1.1
+      --limit <N>        The most octets that a message may have [default: 65536]
+      --json             Write lines of JSON in place of the listing
+      --names <SET>      The names of fields with --json: those of the profile, or of the standard
+      --segments <PORT>  Read tshark's lines of a capture; the port is the reader's
+  -h, --help             Print help
 
 Reads a stream of LLRP messages on standard input, or each FILE as a stream by itself, and prints its
 listing on standard output:
@@ -51,6 +52,9 @@ docs/tables.md leaves out of its set; with --all they are those of the whole sta
 is 0 if all frames are messages and the last one is whole, and 1 if not. With --json each frame is one
 line of JSON in place of its lines, as docs/json.md says; with --names standard its fields have the
 names that they have with --all, and with --names profile, or without it, those of their own set.
+With --segments the input is lines that examples/capture.sh makes of a capture. A line # TIME STREAM SIDE
+stands before each frame, where SIDE is reader or client, and PORT is the reader's; ? GAP N says that N
+bytes of that side are in no frame, since a segment is missing. With --json these are members.
 Of several files the greatest status counts; that of a file that cannot be read is 3.
 
 Example:
