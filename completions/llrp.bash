@@ -6,7 +6,7 @@ _llrp() {
         # a file, which readline completes where nothing is found here
         *'<' | *'>' | --rospec | --prefixes | --save | --access | --password-file) return ;;
         # a number, a text, or a list
-        --limit | --antennas | --every | --polls | --reports | --timeout | --id | --keepalive | --again | --for | --name | --power | --bind | --clients | --clock | --prefix-digits | --filter | --tag | --read | --write | --epc | --lock | --antenna | --settle)
+        --limit | --antennas | --every | --polls | --reports | --timeout | --id | --keepalive | --again | --for | --name | --power | --bind | --clients | --clock | --prefix-digits | --filter | --segments | --tag | --read | --write | --epc | --lock | --antenna | --settle)
             compopt +o default
             return
             ;;

@@ -3,7 +3,7 @@
 ghost use Rattle.std.specs.Prelude.{IfOk, IfSome};
 ghost use Rattle.llrp_stream.specs.Calls.Device.{CanWrite};
 ghost use Rattle.llrp_listing.specs.Show.{ListedAs};
-ghost use Rattle.llrp_sides.specs.Calls.Forms.{HasListing, IsShown, end_shown};
+ghost use Rattle.llrp_sides.specs.Private.Forms.{HasListing, IsShown, end_shown};
 
 use crate::form::Form;
 use llrp_json::list_stream_json;

@@ -1,2 +1,0 @@
--- What public contracts say that no promise of README rests on.
-pub mod Forms
