@@ -40,7 +40,7 @@ LIBRARY = Product("the library for C", "llrp_c", ("lib", []), f"{TOP}/crates/llr
 # More were not tried, and each takes memory.
 MOST_JOBS = 4
 # The crates that are proved in the copy, in this order.
-BESIDE = ("tag_bits", "tag_epc", "tag_uri", "tag_keys", "tag_forms", "llrp_session", "llrp_explain", "llrp_texts", "llrp_endpoints", "llrp_ask")
+BESIDE = ("tag_bits", "tag_epc", "tag_uri", "tag_keys", "tag_forms", "llrp_session", "llrp_explain", "llrp_texts", "llrp_endpoints", "llrp_ask", "llrp_live")
 # The crates that are proved by all jobs but one, no two at a time. Each other takes one: by more the processors do up to twice as much.
 LARGE = ("llrp_schema", "llrp_tree", "llrp_stream", "llrp_listing", "llrp_endpoints")
 COPY = f"{TOP}/out/beside"

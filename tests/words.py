@@ -196,7 +196,7 @@ def checks_of_bounds(program):
         for flag, value in values_in(output(program, command, "--help")).items():
             done = subprocess.run([program, command, flag, "4294967296"], capture_output=True, text=True, timeout=60)
             bounds = re.search(r"is not in (\d+)\.\.=(\d+)", done.stderr)
-            if value not in ("ADDRESS", "DBM", "FILE", "FORM", "LIST", "PORT", "SCHEMES", "SET", "TAG", "TEXT", "URI") and (flag, bounds and bounds.groups()) not in found:
+            if value not in ("ADDRESS", "CLOCK", "DBM", "FILE", "FORM", "LIST", "PORT", "SCHEMES", "SET", "TAG", "TEXT", "URI") and (flag, bounds and bounds.groups()) not in found:
                 found.add((flag, bounds and bounds.groups()))
                 low, high = map(with_commas, bounds.groups())
                 yield f"the bounds of {flag} in the manual page", f"from {low} to {high}" in entries[flag.removeprefix("-")]
@@ -305,7 +305,7 @@ def checks_of_limits(program):
 
 def checks_of_figures():
     """Yields whether README.md counts the crates of the program and the functions for C as they are."""
-    readme, words = text_of("README.md"), {10: "ten", 12: "twelve", 19: "nineteen", 20: "twenty", 22: "twenty-two"}
+    readme, words = text_of("README.md"), {10: "ten", 12: "twelve", 19: "nineteen", 20: "twenty", 21: "twenty-one", 22: "twenty-two"}
     sys.path.insert(0, TOP)
     import build  # (the script that knows which crates are below another)
 

@@ -3,6 +3,7 @@
 use crate::frame_ends::FrameEnds;
 use crate::live_clock::LiveClock;
 use crate::network::FIRST_ID;
+use crate::one_at_a_time::Clients;
 use llrp_answers::Answers;
 use llrp_commands::LIMIT;
 use llrp_listing::ToolErr;
@@ -174,13 +175,13 @@ impl LiveClient<'_> {
         }
     }
 
-    /// Serves the client until it ends.
-    fn serve(&mut self) -> Result<(), ToolErr> {
+    /// Serves the client until it ends, and refuses others meanwhile.
+    fn serve(&mut self, clients: &mut Clients<'_>) -> Result<(), ToolErr> {
         self.happen(self.stage.accepted, ReaderIn::Connect)?;
         let mut buffer = [0u8; READ_SIZE];
         for _ in 0..MOST_READS {
             match self.turn(&mut buffer)? {
-                Going::On => {}
+                Going::On => clients.refuse(self.alloc, self.clock.now()),
                 Going::Closed => return Ok(()),
                 Going::Ended => return self.end(),
             }
@@ -190,10 +191,11 @@ impl LiveClient<'_> {
 }
 
 /// Serves the client at the other end of the stream, by a reader as new and these lines of a script from
-/// the beginning.
+/// the beginning, and refuses other clients meanwhile.
 pub fn serve_live(
     alloc: Global,
     clock: LiveClock<'_>,
+    clients: &mut Clients<'_>,
     stream: &TcpStream,
     lines: &[Line],
 ) -> Result<(), ToolErr> {
@@ -213,5 +215,5 @@ pub fn serve_live(
         unsent: Vec::new(alloc),
         silent_until: 0,
     };
-    client.serve()
+    client.serve(clients)
 }

@@ -4,6 +4,7 @@ use crate::clients::{most_clients, say_ready};
 use crate::live_client::serve_live;
 use crate::live_clock::LiveClock;
 use crate::network::conclude;
+use crate::one_at_a_time::Clients;
 use crate::sim::listens_on;
 use llrp_commands::SimWords;
 use llrp_listing::ToolErr;
@@ -31,15 +32,15 @@ fn read_script(alloc: Global, input: Stdin) -> Result<Vec<Line>, ToolErr> {
     reader.finish()
 }
 
-/// Serves the next client of a listener. `None` means that the network failed.
+/// Serves the next client. `None` means that the network failed.
 fn serve_next(
     alloc: Global,
     clock: LiveClock<'_>,
-    listener: &TcpListener,
+    clients: &mut Clients<'_>,
     lines: &[Line],
 ) -> Option<Result<(), ToolErr>> {
-    let (stream, _) = listener.accept().ok()?;
-    Some(serve_live(alloc, clock, &stream, lines))
+    let stream = clients.next()?;
+    Some(serve_live(alloc, clock, clients, &stream, lines))
 }
 
 /// Serves clients of a listener one after another. Returns the greatest of their exit statuses.
@@ -50,9 +51,10 @@ fn serve_clients(
     lines: &[Line],
     most: u64,
 ) -> Result<u8, ToolErr> {
+    let mut clients = Clients::new(listener);
     let mut status = 0;
     for _ in 0..most {
-        let outcome = serve_next(rt.alloc(), clock, listener, lines);
+        let outcome = serve_next(rt.alloc(), clock, &mut clients, lines);
         let failed = outcome.is_none();
         let ended = conclude(outcome, &mut Output::new(rt.stderr()))?;
         if failed {

@@ -33,6 +33,7 @@ mod message_printer;
 mod network;
 mod noted;
 mod notes;
+mod one_at_a_time;
 mod out_of_memory;
 mod plan;
 mod powered;
