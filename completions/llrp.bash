@@ -4,7 +4,7 @@ _llrp() {
     COMPREPLY=()
     case ${COMP_WORDS[COMP_CWORD - 1]} in
         # a file, which readline completes where nothing is found here
-        *'<' | *'>' | --rospec | --prefixes | --save | --access | --password-file) return ;;
+        *'<' | *'>' | --rospec | --prefixes | --save | --access | --password-file | --answers) return ;;
         # a number, a text, or a list
         --limit | --antennas | --every | --polls | --reports | --timeout | --id | --keepalive | --again | --for | --name | --power | --bind | --clients | --clock | --prefix-digits | --filter | --segments | --tag | --read | --write | --epc | --lock | --antenna | --settle)
             compopt +o default
@@ -29,7 +29,7 @@ _llrp() {
             stop) words='--rospec --id --timeout --help' ;;
             ask) words='--json --timeout --go-on --raw --help' ;;
             access) words='--tag --read --write --epc --lock --password-file --verify --antenna --settle --timeout --json --help' ;;
-            sim) words='--all --bind --clients --clock --ready --help' ;;
+            sim) words='--all --bind --clients --clock --answers --ready --help' ;;
             fields) words='--all --help' ;;
             explain) words='--hex --all --limit --help' ;;
             epc) words='--forms --list --json --to --prefix-digits --filter --prefixes --help' ;;

@@ -26,6 +26,7 @@ complete -c llrp -n '__fish_seen_subcommand_from sim' -l all -d 'Requests of gen
 complete -c llrp -n '__fish_seen_subcommand_from sim' -l bind -x -d 'The address to listen on'
 complete -c llrp -n '__fish_seen_subcommand_from sim' -l clients -x -d 'How many clients to serve'
 complete -c llrp -n '__fish_seen_subcommand_from sim' -l clock -x -d 'By which clock'
+complete -c llrp -n '__fish_seen_subcommand_from sim' -l answers -r -F -d 'The file of answers'
 complete -c llrp -n '__fish_seen_subcommand_from sim' -l ready -d 'Say where it listens'
 complete -c llrp -n '__fish_seen_subcommand_from show encode explain inventory watch' -l limit -x -d 'The most octets of a message'
 complete -c llrp -n '__fish_seen_subcommand_from inventory loop watch stop' -l rospec -r -F -d 'The file of the ROSpec'

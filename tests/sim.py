@@ -14,6 +14,7 @@ import socket
 import struct
 import subprocess
 import sys
+import tempfile
 import time
 
 from parts.counting import finish_results, text_of
@@ -21,7 +22,7 @@ from parts.ports import held_port, listens_at, wait_until
 from parts.repository import TOP, program_given
 
 # How many comparisons there are.
-LEAST = 106
+LEAST = 124
 # How long a run may take, in seconds.
 LONGEST = 60
 
@@ -398,6 +399,72 @@ def readers_that_misbehave():
         yield "it falls silent, and then says what it would have", comes_at(client.heard(1.5), GET_SUPPORTED_VERSION_RESPONSE, [0.57])
 
 
+# Versions of LLRP (1.1, section 17.1): SET_PROTOCOL_VERSION is type 47, its response 57, and ERROR_MESSAGE 100; M_UnsupportedVersion is 110.
+SET_PROTOCOL_VERSION, SET_PROTOCOL_VERSION_RESPONSE, ERROR_MESSAGE, KEEPALIVE_ACK, CUSTOM_MESSAGE = 47, 57, 100, 72, 1023
+
+
+def status(code):
+    """LLRPStatus without a text."""
+    return parameter(287, struct.pack(">HH", code, 0))
+
+
+def second(octets):
+    """A message of version 1 as one of version 2."""
+    return struct.pack(">H", struct.unpack(">H", octets[:2])[0] + 0x400) + octets[2:]
+
+
+def versions():
+    """A connection begins in version 1, and goes on in the one that is agreed."""
+    with living() as (port, _), Client(port) as client:
+        client.await_kind(EVENT)
+        for sent, wanted in (
+            (second(message(GET_SUPPORTED_VERSION, 2)), second(message(GET_SUPPORTED_VERSION_RESPONSE, 2, b"\1\2" + status(0)))),
+            (second(message(KEEPALIVE_ACK, 3)), message(ERROR_MESSAGE, 3, status(110))),
+            (second(message(SET_PROTOCOL_VERSION, 4, b"\2")), second(message(SET_PROTOCOL_VERSION_RESPONSE, 4, status(0)))),
+            (message(KEEPALIVE_ACK, 5), message(ERROR_MESSAGE, 5, status(110))),
+            (second(message(SET_PROTOCOL_VERSION, 6, b"\3")), second(message(SET_PROTOCOL_VERSION_RESPONSE, 6, status(110)))),
+            (second(message(CLOSE_CONNECTION, 7)), second(message(CLOSE_CONNECTION_RESPONSE, 7, status(0)))),
+        ):
+            client.send(sent)
+            yield f"versions: message {sent[9]}", client.frame(LONGEST) == wanted
+
+
+def answered():
+    """Messages that the reader does not know are answered by a file, for each client, and files are refused at their lines."""
+    enable = message(CUSTOM_MESSAGE, 9, struct.pack(">IBI", 25882, 21, 0))
+    enabled = message(CUSTOM_MESSAGE, 9, struct.pack(">IB", 25882, 22) + status(0))
+    with living("--clients", "2", "--answers", os.path.join(TOP, "examples/answers")) as (port, _):
+        for number in (1, 2):
+            with Client(port) as client:
+                client.await_kind(EVENT)
+                client.send(enable)
+                yield f"an answer of a file to client {number}", client.frame(LONGEST) == enabled
+                client.send(message(CUSTOM_MESSAGE, 8, struct.pack(">IB", 25882, 23)))
+                yield f"no answer to another, client {number}", client.frame(LONGEST) == message(ERROR_MESSAGE, 8, status(109))
+                client.send(CLOSE)
+                client.await_kind(CLOSE_CONNECTION_RESPONSE)
+    with living() as (port, _), Client(port) as client:
+        client.await_kind(EVENT)
+        client.send(enable)
+        yield "without a file", client.frame(LONGEST) == message(ERROR_MESSAGE, 9, status(109))
+    for text, said in (
+        ("0 KEEPALIVE 1 1\n", "llrp: answers line 1: Line\n"),
+        ("? 0 CUSTOM_MESSAGE * *\n", "llrp: answers line 1: Fields\n"),
+        ("? 0 KEEPALIVE * *\n0 KEEPALIVE 1 1\n? 0 KEEPALIVES * *\n", "llrp: answers line 3: Name\n"),
+        ("? 0 KEEPALIVE * *\n0 KEEPALIVE 3 1\n", "llrp: answers line 2: Number\n"),
+    ):
+        with tempfile.NamedTemporaryFile("w", suffix=".answers") as file:
+            file.write(text)
+            file.flush()
+            with held_port() as port, simulated(str(port), "--clock", "real", "--answers", file.name) as run:
+                yield f"the answers {text!r}", ended(run) == (1, said)
+    with held_port() as port, simulated(str(port), "--clock", "real", "--answers", "/no/such/file") as run:
+        yield "no file of answers", ended(run) == (3, "llrp: answers\n")
+    with held_port() as port, simulated(str(port), "--answers", "/no/such/file") as run:
+        status_, said = ended(run)
+        yield "answers without a clock", status_ == 2 and said.startswith("error: the argument '--answers <FILE>' needs '--clock <CLOCK>'")
+
+
 def refused_clocks():
     """Clocks and lines that are none."""
     tag = "seen 1 -60 urn:epc:tag:gid-96:1.2.3\n"
@@ -427,7 +494,7 @@ def examples():
 
 
 PLAIN = (ready, one_after_another, whole_scripts, addresses, refusals, examples)
-BY_CLOCK = (time_passes, lines_with_moments, clients_that_misbehave, second_clients, readers_that_misbehave, refused_clocks)
+BY_CLOCK = (time_passes, lines_with_moments, clients_that_misbehave, second_clients, readers_that_misbehave, versions, answered, refused_clocks)
 
 
 def main():

@@ -198,13 +198,14 @@ pub fn serve_live(
     clients: &mut Clients<'_>,
     stream: &TcpStream,
     lines: &[Line],
+    answers: Answers,
 ) -> Result<(), ToolErr> {
     let core = Reader::new(alloc, LIMIT, FIRST_ID);
     let mut client = LiveClient {
         alloc,
         clock,
         stream,
-        reader: LiveReader::new(alloc, core, Answers::new(alloc)),
+        reader: LiveReader::new(alloc, core, answers),
         ends: FrameEnds::new(alloc),
         schedule: Schedule::new(alloc, lines)?,
         stage: Stage {

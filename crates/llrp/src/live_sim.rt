@@ -1,5 +1,6 @@
 //! The command `sim` with `--clock`: serves clients in real time.
 
+use crate::canned::{AnswerText, refuse_answers};
 use crate::clients::{most_clients, say_ready};
 use crate::live_client::serve_live;
 use crate::live_clock::LiveClock;
@@ -38,9 +39,13 @@ fn serve_next(
     clock: LiveClock<'_>,
     clients: &mut Clients<'_>,
     lines: &[Line],
+    answers: &AnswerText,
 ) -> Option<Result<(), ToolErr>> {
     let stream = clients.next()?;
-    Some(serve_live(alloc, clock, clients, &stream, lines))
+    match answers.answers(alloc) {
+        Ok(answers) => Some(serve_live(alloc, clock, clients, &stream, lines, answers)),
+        Err(error) => Some(Err(error)),
+    }
 }
 
 /// Serves clients of a listener one after another. Returns the greatest of their exit statuses.
@@ -49,12 +54,13 @@ fn serve_clients(
     clock: LiveClock<'_>,
     listener: &TcpListener,
     lines: &[Line],
+    answers: &AnswerText,
     most: u64,
 ) -> Result<u8, ToolErr> {
     let mut clients = Clients::new(listener);
     let mut status = 0;
     for _ in 0..most {
-        let outcome = serve_next(rt.alloc(), clock, &mut clients, lines);
+        let outcome = serve_next(rt.alloc(), clock, &mut clients, lines, answers);
         let failed = outcome.is_none();
         let ended = conclude(outcome, &mut Output::new(rt.stderr()))?;
         if failed {
@@ -73,6 +79,7 @@ fn serve_at(
     words: SimWords<'_>,
     rate: u16,
     lines: &[Line],
+    answers: &AnswerText,
 ) -> Result<u8, ToolErr> {
     let mut errors = Output::new(rt.stderr());
     let address = listens_on(words.bind);
@@ -85,14 +92,19 @@ fn serve_at(
     if words.ready {
         say_ready(rt.alloc(), address, words.port, &mut errors)?;
     }
-    serve_clients(rt, clock, &listener, lines, most_clients(words.clients))
+    let most = most_clients(words.clients);
+    serve_clients(rt, clock, &listener, lines, answers, most)
 }
 
 /// Reads the script, serves clients in real time as the words say, and returns the exit status, as
 /// `sim` without a clock does.
 pub fn live_sim(rt: &HostRuntime, words: SimWords<'_>, rate: u16) -> Result<u8, ToolErr> {
+    let answers = match AnswerText::open(rt, rt.alloc(), words.answers) {
+        Ok(answers) => answers,
+        Err(no_answers) => return refuse_answers(no_answers, &mut Output::new(rt.stderr())),
+    };
     match read_script(rt.alloc(), rt.stdin()) {
-        Ok(lines) => serve_at(rt, words, rate, lines.as_slice()),
+        Ok(lines) => serve_at(rt, words, rate, lines.as_slice(), &answers),
         Err(error) => conclude(Some(Err(error)), &mut Output::new(rt.stderr())),
     }
 }

@@ -15,6 +15,7 @@ mod access_talk;
 mod address;
 mod ask;
 mod both_ends;
+mod canned;
 mod clients;
 mod connecting;
 mod deadline;
@@ -68,7 +69,7 @@ use out_of_memory::end_without_memory;
 use plan::{open_plan, refuse};
 use prefixes::run_epc_by_file;
 use progress::Progress;
-use refused_words::{NO_ADDRESS, NO_CLOCK, plan_clash, stop_clash, watch_clash};
+use refused_words::{NO_ADDRESS, NO_CLOCK, plan_clash, sim_clash, stop_clash, watch_clash};
 use std::env;
 use std::fs::File;
 use std::io::{ErrorKind, IsTerminal, Stderr};
@@ -135,9 +136,10 @@ fn run_network(
         return Ok(USAGE);
     }
     match command {
-        NetworkCommand::Sim { words } => match words.clock {
-            None => sim::sim(rt, alloc, words, &mut input, &mut errors),
-            Some(clock) => match rate_of(clock) {
+        NetworkCommand::Sim { words } => match (sim_clash(words), words.clock) {
+            (Some(said), _) => refuse_words(said, &mut errors),
+            (None, None) => sim::sim(rt, alloc, words, &mut input, &mut errors),
+            (None, Some(clock)) => match rate_of(clock) {
                 Some(rate) => live_sim::live_sim(rt, words, rate),
                 None => refuse_words(NO_CLOCK, &mut errors),
             },

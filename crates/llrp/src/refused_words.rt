@@ -2,7 +2,7 @@
 
 use crate::decibels::read_power;
 use crate::plan::{has_every_twice, never_reports};
-use llrp_commands::{PlanWords, StopWords, WatchWords};
+use llrp_commands::{PlanWords, SimWords, StopWords, WatchWords};
 
 /// What is written if reports are awaited of a ROSpec that reports at its end alone.
 const NEVER_REPORTS: &[u8] =
@@ -43,6 +43,18 @@ pub const NO_ADDRESS: &[u8] =
 /// What is written if a clock is none.
 pub const NO_CLOCK: &[u8] =
     b"error: invalid value for '--clock <CLOCK>': expected real, or real*N with N from 1 to 1000\n\nFor more information, try '--help'.\n";
+
+/// What is written if answers are given to a reader without a clock.
+const ANSWERS_ALONE: &[u8] =
+    b"error: the argument '--answers <FILE>' needs '--clock <CLOCK>'\n\nFor more information, try '--help'.\n";
+
+/// What is written if the options of a simulated reader do not go together.
+pub fn sim_clash(words: SimWords<'_>) -> Option<&'static [u8]> {
+    match words.clock {
+        None if words.answers.is_some() => Some(ANSWERS_ALONE),
+        _ => None,
+    }
+}
 
 /// What is written if the options of a plan exclude each other.
 pub fn plan_clash(words: PlanWords<'_>) -> Option<&'static [u8]> {

@@ -429,6 +429,9 @@ the_clients = with_index 2 (filled (number_rule (codes "clients")))
 abbrev the_clock : Rule
 the_clock = with_index 2 (filled (text_option_rule (codes "clock")))
 
+abbrev the_answers : Rule
+the_answers = with_index 2 (filled (text_option_rule (codes "answers")))
+
 abbrev the_ready : Rule
 the_ready = with_index 2 (filled (flag_rule (codes "ready")))
 
@@ -447,19 +450,19 @@ sim_gives name words helpless met pass =
             (
               set_passes c the_clock refl refl refl,
               (
-                flag_passes c the_ready refl refl (omega arith),
-                (help_passes c (the_help 2) refl, tt),
+                set_passes c the_answers refl refl refl,
+                (flag_passes c the_ready refl refl (omega arith), (help_passes c (the_help 2) refl, tt)),
               ),
             ),
           ),
         ),
       ),
     ) in
-    let found : AllFound c c = (refl, (refl, (refl, (refl, (refl, (refl, (refl, tt))))))) in
+    let found : AllFound c c = (refl, (refl, (refl, (refl, (refl, (refl, (refl, (refl, tt)))))))) in
     let port = required_read s uses found words pass refl (the_port 1) refl (inl refl) refl in
     let all = default_read s uses found words pass the_all_of_sim refl (inr (inl refl)) (omega arith) in
     let clients = optional_read s uses found words pass the_clients refl in
-    let ready = default_read s uses found words pass the_ready refl (inr (inr (inr (inr (inr (inl refl)))))) (omega arith) in
+    let ready = default_read s uses found words pass the_ready refl (inr (inr (inr (inr (inr (inr (inl refl))))))) (omega arith) in
     inr (inr (inr (inl (
       refl,
       (

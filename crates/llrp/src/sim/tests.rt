@@ -76,6 +76,7 @@ fn a_refused_script_and_a_taken_port(rt: HostRuntime) -> Result<(), Fail> {
         bind: None,
         clients: None,
         clock: None,
+        answers: None,
         ready: true,
     };
     for (script, status, line) in [

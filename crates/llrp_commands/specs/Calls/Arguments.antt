@@ -103,7 +103,8 @@ count_rule name = record (new_rule name) { long = Some name; value_names = 1; pa
 
 -- a command with what test benches ask for
 abbrev pub with_bench : App → App
-with_bench a = with_rule (with_rule (with_rule (with_rule a (text_option_rule (codes "bind"))) (number_rule (codes "clients"))) (text_option_rule (codes "clock"))) (flag_rule (codes "ready"))
+with_bench a =
+    with_rule (with_rule (with_rule (with_rule (with_rule a (text_option_rule (codes "bind"))) (number_rule (codes "clients"))) (text_option_rule (codes "clock"))) (text_option_rule (codes "answers"))) (flag_rule (codes "ready"))
 
 -- sim PORT, with the flag --all
 abbrev pub sim_app : App
@@ -423,7 +424,8 @@ abbrev pub IsSim : Option (Text × List Row) → SimWords → Type 0
 IsSim found words =
     HasNumber (codes "PORT") found words.port × IsFlag (all_in found) words.all
     × HasOptionalText (codes "bind") found words.bind × HasOptionalNumber (codes "clients") found words.clients
-    × HasOptionalText (codes "clock") found words.clock × IsFlag (flag_in (codes "ready") found) words.ready
+    × HasOptionalText (codes "clock") found words.clock × HasOptionalText (codes "answers") found words.answers
+    × IsFlag (flag_in (codes "ready") found) words.ready
 
 -- these are the options of watch
 abbrev pub IsWatch : Option (Text × List Row) → WatchWords → Type 0

@@ -138,6 +138,10 @@ with a moment too, where TIME is such as 500ms or 2s:
 WHAT is seen ANTENNA RSSI TEXT, tick, close (the reader closes the connection) or silent TIME (it sends
 nothing for that long, and then what it has to say).
 
+A connection begins in version 1, and SET_PROTOCOL_VERSION changes it; a message of another version is
+refused. --answers FILE answers messages that are not in docs/tables.md: a line ? FORM, and the messages
+to answer with, as show --all lists them. FORM is a request's line there; a word * stands for any.
+
 Example:
   $ printf '2 5 tick\\n' | llrp sim 5084";
 

@@ -21,6 +21,8 @@ pub struct SimWords<'a> {
     pub clients: Option<u16>,
     /// The clock by which time passes by itself.
     pub clock: Option<&'a str>,
+    /// The file of answers to messages that the profile does not have.
+    pub answers: Option<&'a str>,
     /// Whether it says that it listens.
     pub ready: bool,
 }
@@ -36,6 +38,7 @@ pub(super) fn sim_words<'a>(inner: &ArgMatches<'a>) -> SimWords<'a>
         bind: optional_text(inner, "bind"),
         clients: optional_number(inner, "clients"),
         clock: optional_text(inner, "clock"),
+        answers: optional_text(inner, "answers"),
         ready: inner.get_flag("ready"),
     }
 }

@@ -9,15 +9,22 @@ returns-clause-app c = λ a given.
     let bind = c.text_option.ensures in
     let clients = c.number_option.ensures in
     let clock = c.text_option-2.ensures in
+    let answers = c.text_option-3.ensures in
     let ready = c.plan_flag.ensures in
     let one = c.with_argument-with_bind.ensures.app a given bind.local in
     let two = c.with_argument-with_clients.ensures.app _ one clients.local in
     let three = c.with_argument-with_clock.ensures.app _ two clock.local in
-    let all = c.with_argument.ensures.app _ three ready.local in
+    let four = c.with_argument-with_answers.ensures.app _ three answers.local in
+    let all = c.with_argument.ensures.app _ four ready.local in
+    let the_bind = text_option_rule (codes "bind") in
+    let the_clients = number_rule (codes "clients") in
+    let the_clock = text_option_rule (codes "clock") in
+    let the_answers = text_option_rule (codes "answers") in
     IfOk-weaker c.with_argument.result _ _
     (λ r h.
     h
-    ∙ ap (λ (x : Rule). with_rule (with_rule (with_rule (with_rule a x) (rule_of c.number_option.result)) (rule_of c.text_option-2.result)) (rule_of c.plan_flag.result)) bind.rule
-    ∙ ap (λ (x : Rule). with_rule (with_rule (with_rule (with_rule a (text_option_rule (codes "bind"))) x) (rule_of c.text_option-2.result)) (rule_of c.plan_flag.result)) clients.rule
-    ∙ ap (λ (x : Rule). with_rule (with_rule (with_rule (with_rule a (text_option_rule (codes "bind"))) (number_rule (codes "clients"))) x) (rule_of c.plan_flag.result)) clock.rule
-    ∙ ap (λ (x : Rule). with_rule (with_rule (with_rule (with_rule a (text_option_rule (codes "bind"))) (number_rule (codes "clients"))) (text_option_rule (codes "clock"))) x) ready.rule) all
+    ∙ ap (λ (x : Rule). with_rule (with_rule (with_rule (with_rule (with_rule a x) (rule_of c.number_option.result)) (rule_of c.text_option-2.result)) (rule_of c.text_option-3.result)) (rule_of c.plan_flag.result)) bind.rule
+    ∙ ap (λ (x : Rule). with_rule (with_rule (with_rule (with_rule (with_rule a the_bind) x) (rule_of c.text_option-2.result)) (rule_of c.text_option-3.result)) (rule_of c.plan_flag.result)) clients.rule
+    ∙ ap (λ (x : Rule). with_rule (with_rule (with_rule (with_rule (with_rule a the_bind) the_clients) x) (rule_of c.text_option-3.result)) (rule_of c.plan_flag.result)) clock.rule
+    ∙ ap (λ (x : Rule). with_rule (with_rule (with_rule (with_rule (with_rule a the_bind) the_clients) the_clock) x) (rule_of c.plan_flag.result)) answers.rule
+    ∙ ap (λ (x : Rule). with_rule (with_rule (with_rule (with_rule (with_rule a the_bind) the_clients) the_clock) the_answers) x) ready.rule) all

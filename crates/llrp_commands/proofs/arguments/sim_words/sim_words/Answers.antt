@@ -14,5 +14,6 @@ returns c = λ name.
       c.optional_text.ensures name,
       c.optional_number.ensures name,
       c.optional_text-2.ensures name,
+      c.optional_text-3.ensures name,
       reads_flag _ c.get_flag-2.result (has_flag _ c.get_flag-2.result (λ h. c.get_flag-2.ensures.none (ready ∙ h)) (λ h. c.get_flag-2.ensures.value (ready ∙ h)) (λ h. c.get_flag-2.ensures.other (ready ∙ h))) c.requires.3,
     )
