@@ -153,7 +153,7 @@ def checks_of_pages(flags):
     """Yields whether the manual page and the table of README.md have the commands, and the flags of each."""
     manual = text_of("docs/llrp.1").replace("\\-", "-")
     synopsis, described = manual.split(".Sh DESCRIPTION")
-    usages = re.findall(r"(?m)^\.Cm (\w+)\n((?:\.(?:Op|Ar) .*\n)*)", synopsis)
+    usages = re.findall(r"(?m)^\.Cm (\w+)\n((?:\.(?:Op|Ar|Fl) .*\n)*)", synopsis)
     yield "the synopsis", sorted(name for name, _ in usages) == sorted({*flags, "help"} - {""})
     table = re.findall(r"(?m)^\| `llrp (\w+)([^`]*)` \|", text_of("README.md"))
     yield "the table of README.md", sorted(name for name, _ in table) == sorted(set(flags) - {""})

@@ -1,5 +1,5 @@
 -- A course that changes a tag adds its AccessSpec only where one EPC was seen.
-use Rattle.std.proofs.Common.{◌≡◌, ◌∙◌, ◌⊎◌, inl, inr, ℕ, List, [], ◌∷◌, ◌++◌, Bool, true, false, if◌then◌else◌, ◌&&◌, ◌||◌, not, Option, Some, None, refl, sym, ap, subst, rules, is_some, nat_eq}
+use Rattle.std.proofs.Common.{◌≡◌, ◌∙◌, ◌⊎◌, inl, inr, ℕ, List, [], ◌∷◌, ◌++◌, Bool, true, false, if◌then◌else◌, ◌&&◌, ◌||◌, not, Option, Some, None, refl, sym, ap, rules, is_some}
 use Rattle.std.specs.Prelude.{◌==◌}
 use Rattle.std.specs.List.{list_any}
 use Rattle.std.specs.Str.{bytes_eq}
@@ -12,7 +12,7 @@ use Rattle.llrp_operations.specs.declared.course.Saying.{Saying}
 use Rattle.llrp_operations.specs.declared.course.Saying.TheVariants.{Asks, Acknowledges}
 use Rattle.llrp_operations.specs.declared.course.Stage.{Stage}
 use Rattle.llrp_operations.specs.declared.course.Stage.TheVariants.{Accepting, Asking, Seeking, Settling, Operating, Ended, Lost}
-use Rattle.llrp_operations.specs.Calls.Course.{Course, accept, acknowledge, answer, answered, finish, finished, first_course, granted, hear, is_alone, looks, look, lose, noted, operate, say, sees, selects, settle, settled, silent, stands, tolerates}
+use Rattle.llrp_operations.specs.Calls.Course.{Course, accept, answer, finished, first_course, granted, hear, is_alone, looks, noted, say, selects, settled, silent, stands, tolerates}
 use Rattle.llrp_operations.specs.Calls.CourseLaws.{ChangesOne, Event, Hears, Silence, Loss, SawOne, adds, after, follow}
 
 -- before the AccessSpec is added

@@ -1,7 +1,8 @@
 //! The operations that follow from others: a new EPC, and the reads that verify what was written.
 
 ghost use Rattle.std.specs.Prelude.{◌≡◌, ◌++◌, ◌<◌, ◌⊎◌, ◌%◌, IfErr, IfOk, length};
-ghost use Rattle.llrp_operations.specs.Calls.Changes.{IsCheckOf, IsEpcWrite, changes, checks};
+ghost use Rattle.llrp_operations.specs.Calls.Changes.{IsEpcWrite, changes, checks};
+ghost use Rattle.llrp_operations.specs.Private.Changes.{IsCheckOf};
 ghost use Rattle.std.specs.List.{list_any};
 ghost use Rattle.llrp_operations.specs.declared.request.TheConstants.{LONGEST_EPC};
 

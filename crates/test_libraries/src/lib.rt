@@ -5,6 +5,8 @@
 #![tactic(auto)]
 
 #[cfg(test)]
+mod access_words;
+#[cfg(test)]
 mod ask_words;
 #[cfg(test)]
 mod asking;

@@ -16,6 +16,7 @@ Commands:
   watch      Print the tags that a reader sees, day and night
   stop       Delete the ROSpec that watch left on a reader
   ask        Send the messages of a file to a reader, and show what comes
+  access     Read, write or lock one tag
   help       Print this message or the help of the given subcommand(s)
 
 Options:
@@ -370,6 +371,46 @@ llrp: status N names the first such status, and the exit status is 1.
 Example:
   $ echo 0 GET_READER_CAPABILITIES 1 1 0 > capabilities.txt
   $ llrp ask reader.example capabilities.txt
+";
+
+pub const ACCESS_HELP: &[u8] = b"Read, write or lock one tag
+
+Usage: llrp access [OPTIONS] --tag <TAG> <HOST>
+
+Arguments:
+  <HOST>  The reader's name or address, or HOST:PORT; the port is 5084 without one
+
+Options:
+      --tag <TAG>               The tag's EPC in hexadecimal digits or as a tag URI, or any
+      --read <BANK:WORD:COUNT>  Read words of a bank, as tid:0:6; 0 words are all
+      --write <BANK:WORD=HEX>   Write words into a bank, as user:0=1234ABCD
+      --epc <URI>               Give the tag the EPC of this tag URI
+      --lock <FIELD=HOW>        Lock a bank or a password, as user=lock
+      --password-file <FILE>    Take the access password from this file, 8 hexadecimal digits
+      --verify                  Read back what was written
+      --antenna <N>             The antenna; without it all
+      --settle <SECONDS>        How long to look for further tags before a change; without it 1
+      --timeout <SECONDS>       How long to wait for a tag and for each answer; without it 10
+      --json                    Write lines of JSON
+  -h, --help                    Print help
+
+Connects to an LLRP reader, and does to one tag, once, what the options say: first what --read says, then
+--write, --epc and --lock, and with --verify it reads back what was written. BANK is reserved, epc, tid or
+user; a WORD has 16 bits, and is counted from 0. FIELD is kill, access, epc, tid or user, the passwords and
+the banks; HOW is lock, unlock, permanent-lock or permanent-unlock. What is permanent is never undone.
+
+The tag is the one with the EPC of --tag in whole, or the first with any. Before a tag is written or
+locked the reader looks for tags for --settle seconds; if there is more than one that might be meant,
+nothing is done (llrp: several tags). If none comes in --timeout seconds, the line is llrp: no tag. Each
+operation is a line with its result by name, and after a read the words in hexadecimal digits. The
+AccessSpec and the ROSpec, both with the id 5084, are deleted before and after.
+
+The exit status is 0 if the tag did all operations, and what was read back is what was written; 1 if not, or
+if the reader refuses something or no tag comes; 4 if the connection was lost when the tag may have been
+changed (llrp: unknown, read again); else as ever.
+
+Example:
+  $ llrp access reader.example --tag any --read tid:0:6
 ";
 
 pub const PORT_ZERO: &[u8] = b"error: invalid value '0' for '<PORT>': 0 is not in 1..=65535

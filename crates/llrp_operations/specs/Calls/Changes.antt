@@ -52,10 +52,6 @@ check_of (Lock _ _) = []
 abbrev pub checks : List Operation → List Operation
 checks os = flat_map check_of os
 
-abbrev pub IsCheckOf : Operation → Option Operation → Type 0
-IsCheckOf o None = check_of o ≡ []
-IsCheckOf o (Some check) = check_of o ≡ check ∷ []
-
 -- each write has one of these results, in order, whose words are those that it wrote
 abbrev pub say_words : List Operation → List Tree → Bool
 say_words [] ts = true
@@ -67,11 +63,6 @@ say_words (Write bank pointer words ∷ os) (t ∷ ts) = bytes_eq t.tail (words_
 -- after the results of these operations come those of their checks, with the words that were written
 abbrev pub is_verified : List Operation → Tree → Bool
 is_verified os tag = say_words os (drop (length os) (filter is_result (trees tag.children)))
-
--- what is sent: the operations asked for, and where it verifies, their checks
-abbrev pub all_sent : (verifies : Bool) → List Operation → List Operation
-all_sent false os = os
-all_sent true os = os ++ checks os
 
 -- all that was asked for was done: what was sent, and where it verifies, the words that are read back are those that were written
 abbrev pub is_done : (verifies : Bool) → ℕ → (asked sent : List Operation) → Tree → Bool

@@ -10,7 +10,7 @@ use Rattle.llrp_schema.specs.declared.kinds.ParamKind.{ParamKind}
 use Rattle.llrp_schema.specs.declared.kinds.ParamKind.TheVariants.{WholeEpc96, WholeEpcData, WholeTagReportData, WholeLlrpStatus, WholeReaderEventNotificationData, WholeConnectionAttemptEvent}
 use Rattle.llrp_schema.specs.Schema.{number_of}
 use Rattle.llrp_session.specs.RoSpec.{field_of, is_kind}
-use Rattle.llrp_tree.specs.Tree.{MessageTree, Tree, forest, trees, Forest}
+use Rattle.llrp_tree.specs.Tree.{MessageTree, Tree, forest, trees}
 use Rattle.llrp_operations.specs.declared.course.Demand.{Demand}
 use Rattle.llrp_operations.specs.declared.course.Demand.TheVariants.{ClearAccess, ClearInventory, AddInventory, EnableInventory, StartInventory, AddAccess, EnableAccess, RemoveAccess, RemoveInventory, Close}
 use Rattle.llrp_operations.specs.declared.course.Saying.{Saying}
