@@ -69,7 +69,13 @@ fn words_of_access(rt: HostRuntime) {
 #[test]
 fn texts_of_access(rt: HostRuntime) {
     let words = [
-        "access", "h", "--read", "tid:0:6", "--tag", "any", "--read=user:0:0",
+        "access",
+        "h",
+        "--read",
+        "tid:0:6",
+        "--tag",
+        "any",
+        "--read=user:0:0",
     ];
     let reads = texts_asked(rt.alloc(), &words, "read");
     assert!(rt; reads.is_ok_and(|reads| reads.as_slice() == ["tid:0:6", "user:0:0"].as_slice()));
