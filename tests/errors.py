@@ -58,6 +58,7 @@ BEFORE = {
     ("Number", 1): "",
     ("Tail", 3): ADD + "1 ROSpec 1 0 0\n",
     ("Epc RULE", 3): TAG,
+    ("Epc Key", 3): TAG,
     ("Node FaultName", 2): REPORT,
     ("OverLimit", 1): "",
     ("Value", 2): ADD,
@@ -172,7 +173,7 @@ def checks_of_listings(program):
             line, before = next((line, before) for (key, line), before in BEFORE.items() if key == row)
             reason = f"Node {name}" if of_node else {"Epc RULE": "Epc LeadingZero", "Node FaultName": "Node Missing"}.get(name, name)
             shown = "\n".join(re.findall(r"`(\d+ [^`]*)`", example.split(": 18")[0]))
-            words = ["--limit", re.search(r"--limit (\d+)", example)[1]] if "--limit" in example else []
+            words = ["--limit", re.search(r"--limit (\d+)", example)[1]] if "--limit" in example else ["--keys"] if "--keys" in example else []
             end_line = "" if "without a line feed" in example else "\n"
             yield f"{reason}: {shown}", refused_by(program, reason, line, before + shown + (end_line if shown else ""), *words)
 
