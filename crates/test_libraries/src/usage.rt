@@ -427,7 +427,7 @@ For more information, try '--help'.
 ";
 
 pub const NO_COMMAND: &[u8] = b"error: 'llrp' requires a subcommand but one was not provided
-  [subcommands: show, encode, epc, fields, explain, sim, inventory, loop, watch, stop, ask, help]
+  [subcommands: show, encode, epc, fields, explain, sim, inventory, loop, watch, stop, ask, access, help]
 
 Usage: llrp <COMMAND>
 
