@@ -96,10 +96,10 @@ def first_words(names):
 
 def checks_of_rows():
     """Yields whether each table and each list has exactly the words of its source; llrp: file, llrp: name, llrp: network, llrp: save, the line of
-    `encode --json`, that of a file, llrp: power, and both of llrp: access, of llrp: rospec and of llrp: prefixes are said elsewhere."""
+    `encode --json`, that of a file, llrp: power, both rows of Epc in a listing, and both of llrp: access, of llrp: rospec and of llrp: prefixes are said elsewhere."""
     for where, names in [(TABLES, lambda head: [row[0] for row in rows(head)]), (LISTS, entries)]:
         for head, source in where.items():
-            others = ["FILE", "access", "access", "file", "line", "name", "network", "power", "prefixes", "prefixes", "rospec", "rospec", "save"] if source == LINES else []
+            others = ["FILE", "access", "access", "file", "line", "name", "network", "power", "prefixes", "prefixes", "rospec", "rospec", "save"] if source == LINES else ["Epc"] if head.endswith("A listing") else []
             wanted = [*words_of(*source), *others]
             yield f"the source of {head}", len(wanted) >= source[2]
             yield f"the rows after {head}", first_words(names(head)) == sorted(wanted)
