@@ -1,5 +1,7 @@
 //! The file of `sim --answers`.
 
+ghost use Rattle.llrp_stream.specs.Calls.Device.{CanWrite};
+
 use crate::network::FAILED;
 use llrp_answers::Answers;
 use llrp_commands::{answer, write_refusal};
@@ -64,7 +66,9 @@ impl AnswerText {
 }
 
 /// Writes why there are no answers, and returns the exit status: 1 if a line is refused, and else 3.
-pub fn refuse_answers<E: Sink>(no_answers: NoAnswers, errors: &mut E) -> Result<u8, ToolErr> {
+pub fn refuse_answers<E: Sink>(no_answers: NoAnswers, errors: &mut E) -> Result<u8, ToolErr>
+    requires { CanWrite (E.log errors.old) }
+{
     match no_answers {
         NoAnswers::Unread => {
             write_all(errors, b"llrp: answers\n")?;

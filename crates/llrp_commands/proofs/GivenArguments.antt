@@ -21,7 +21,7 @@ use Rattle.clap.specs.Walk.{one_of, row_text, plain_word, after_flag, long_or_ot
 use Rattle.clap.proofs.ValueTestLemmas.{accepts-Accepts}
 use Rattle.llrp_tree.specs.declared.TheConstants.{MAX_LIMIT}
 use Rattle.llrp_commands.specs.Private.Parse.{HasFlagWord, HasLimitWord, HasLimitedWords, HasNumberIn, HasNumberWord, HasStreamWords, HasWord, IsFound, IsParse, MayHaveLongCount, MayHaveNumberIn, MayHaveNumberWord}
-use Rattle.llrp_commands.specs.Calls.Arguments.{least_longest, long_count_rule, longest_rule, stop_app, watch_app, command_in, files_rule, limited_app, show_app, stream_app, with_files, hex_rule, json_rule, limit_rule, count_rule, flag_rule, host_rule, inventory_app, llrp_app, loop_app, number_rule, port_rule, epc_app, filter_rule, prefix_digits_rule, text_option_rule, text_rule, top_app, all_rule, sim_app, access_app, tag_rule, texts_rule, ask_app, file_rule, fields_app, name_rule, encode_app}
+use Rattle.llrp_commands.specs.Calls.Arguments.{least_longest, long_count_rule, longest_rule, stop_app, watch_app, command_in, files_rule, limited_app, show_app, with_files, hex_rule, json_rule, limit_rule, count_rule, flag_rule, host_rule, inventory_app, llrp_app, loop_app, number_rule, port_rule, epc_app, filter_rule, prefix_digits_rule, text_option_rule, text_rule, top_app, all_rule, sim_app, access_app, tag_rule, texts_rule, ask_app, file_rule, fields_app, name_rule, encode_app}
 use Rattle.llrp_commands.proofs.ReadRows.{AllFound, AllUsesPass, HasRead, IsAmong, LevelPasses, both, append_passes, subcommand_there, flag_passes, has_read, help_passes, level_passes, set_passes, uses_pass}
 
 -- ---- a walk without a fault does not stop at help

@@ -2,7 +2,7 @@ use Rattle.std.proofs.Common.{ap, codes, ◌≡◌, ◌∙◌}
 use Rattle.clap.specs.Words.{Rule, app_of, new_app, with_rule}
 use Rattle.clap.specs.Simple.{app_of_fields}
 use Rattle.std.proofs.lemmas.Result.{IfOk-weaker}
-use Rattle.llrp_commands.specs.Calls.Arguments.{access_app, host_rule}
+use Rattle.llrp_commands.specs.Calls.Arguments.{host_rule}
 use Rattle.llrp_commands.proofs.arguments.access_commands.access_command.Goals as goal
 
 pub returns-clause-app : goal.returns-clause-app
