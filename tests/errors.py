@@ -25,6 +25,10 @@ PAGE = "docs/errors.md"
 MOST_MEMORY = 65_536
 # Where the words of each table are: the source, its function, and how many it has.
 LINES = ("crates/llrp_commands/src/command.rt", "write_error", 11)
+# The first words of the lines that the program writes itself, some of two lines.
+ELSEWHERE = (
+    "FILE access access answers answers file line name network no not password power prefixes prefixes rospec rospec save several unknown,"
+).split()
 REASONS = ("crates/llrp_listing/src/outcome.rt", "names", 9)
 NODES = ("crates/llrp_listing/src/outcome.rt", "node_fault_name", 8)
 RULES = ("crates/tag_uri/src/fault.rt", "name", 10)
@@ -95,15 +99,14 @@ def first_words(names):
 
 
 def checks_of_rows():
-    """Yields whether each table and each list has exactly the words of its source; llrp: file, llrp: name, llrp: network, llrp: save, the line of
-    `encode --json`, that of a file, llrp: power, both rows of Epc in a listing, and both of llrp: access, of llrp: rospec and of llrp: prefixes are said elsewhere."""
+    """Yields whether each table and each list has exactly the words of its source, and those that are said elsewhere; Epc has a second row in a listing."""
     for where, names in [(TABLES, lambda head: [row[0] for row in rows(head)]), (LISTS, entries)]:
         for head, source in where.items():
-            others = ["FILE", "access", "access", "file", "line", "name", "network", "power", "prefixes", "prefixes", "rospec", "rospec", "save"] if source == LINES else ["Epc"] if head.endswith("A listing") else []
+            others = ELSEWHERE if source == LINES else ["Epc"] if head.endswith("A listing") else []
             wanted = [*words_of(*source), *others]
             yield f"the source of {head}", len(wanted) >= source[2]
             yield f"the rows after {head}", first_words(names(head)) == sorted(wanted)
-    yield "the exit statuses", [row[0] for row in rows("| Exit status |")] == ["0", "1", "2", "3", "125"]
+    yield "the exit statuses", [row[0] for row in rows("| Exit status |")] == ["0", "1", "2", "3", "4", "125"]
     statuses = re.findall(r"(?m)^    LLRP_(\w+) = (\d+)", text_of("include/llrp.h"))
     of_calls = sorted(name.title() for name, code in statuses if int(code) < 16)
     yield "the names of the library for C alone", first_words(row[0] for row in rows("| Name |")) == of_calls
