@@ -22,7 +22,7 @@ from parts.repository import TOP, program_given
 # How many commands each document has.
 DOCUMENTS = {"README.md": 8, "docs/capture.md": 8, "docs/client.md": 1, "docs/json.md": 5, "docs/sim.md": 19}
 # How many libraries have an example, and where the tests are that run them.
-LIBRARIES = 14
+LIBRARIES = 20
 TESTS = ("crates/test_libraries/src/examples", "crates/test_ends/src", "crates/test_keys/src")
 # Comes after what a command prints, with its status.
 MARK = "--- status"

@@ -5,11 +5,7 @@
 //! in use, or of another and to be refused.
 //!
 //! ```
-//! match hear(alloc, Version::First, &message)? {
-//!     Heard::Answered { reply, version } => {} // send the reply, and go on in this version
-//!     Heard::InUse => {}                       // take the message
-//!     Heard::Other => {}                       // answer ERROR_MESSAGE with M_UnsupportedVersion
-//! }
+//! let heard = hear(alloc, Version::First, &message)?; // its reply, and the version in use then, or whether it is of this one
 //! ```
 #![tactic(auto)]
 

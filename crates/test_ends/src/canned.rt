@@ -59,11 +59,7 @@ static ROWS: [Row; 6] = [
 ];
 
 /// What is answered to the request of a text by a file.
-fn llrp_answers_sent(
-    alloc: Global,
-    file: &[u8],
-    request: &[u8],
-) -> Result<Option<Vec<Message>>, TextErr> {
+fn answered(alloc: Global, file: &[u8], request: &[u8]) -> Result<Option<Vec<Message>>, TextErr> {
     let answers = Answers::read(alloc, file)?;
     let requests = messages_of(alloc, KindSet::Standard, request, MAX_LIMIT)?;
     let mut sent = None;
@@ -73,10 +69,44 @@ fn llrp_answers_sent(
     Ok(sent)
 }
 
+/// What a maker's file answers to a request.
+fn llrp_answers_of_a_maker(
+    alloc: Global,
+    request: Message,
+) -> Result<Option<Vec<Message>>, TextErr> {
+    let answers = Answers::read(
+        alloc,
+        b"? 0 CUSTOM_MESSAGE * * 25882 21 *\n0 CUSTOM_MESSAGE 1 0 25882 22 x00\n",
+    )?;
+    let sent = answers.answers_to(alloc, &request)?; // Some of one message, under the request's id
+    Ok(sent)
+}
+
 #[test]
 fn llrp_answers_example(rt: HostRuntime) -> Result<(), Fail> {
+    let alloc = rt.alloc();
+    let text = b"0 CUSTOM_MESSAGE 1 9 25882 21 x00000000\n";
+    for request in messages_of(alloc, KindSet::Standard, text, MAX_LIMIT)? {
+        match llrp_answers_of_a_maker(alloc, request)? {
+            Some(sent) => {
+                assert!(rt;
+                    are_spelled(
+                        alloc,
+                        sent.as_slice(),
+                        &["07FF00000010000000090000651A1600"]
+                    )?
+                );
+            }
+            None => panic!(rt; "no answer"),
+        }
+    }
+    Ok(())
+}
+
+#[test]
+fn requests_are_answered_by_their_forms(rt: HostRuntime) -> Result<(), Fail> {
     for row in &ROWS {
-        let sent = llrp_answers_sent(rt.alloc(), row.file, row.request)?;
+        let sent = answered(rt.alloc(), row.file, row.request)?;
         match (sent, row.answers) {
             (None, None) => {}
             (Some(sent), Some(frames)) => {

@@ -2,9 +2,9 @@
 
 use llrp_schema::KindSet;
 use llrp_texts::messages_of;
-use llrp_tree::MAX_LIMIT;
+use llrp_tree::{MAX_LIMIT, Message};
 use llrp_versions::{Heard, Version, hear};
-use std::alloc::Global;
+use std::alloc::{AllocError, Global};
 use std::test::*;
 use test_devices::are_spelled;
 
@@ -73,6 +73,12 @@ static ROWS: [Row; 8] = [
     },
 ];
 
+/// What a message is at the beginning of a connection.
+fn llrp_versions_at_first(alloc: Global, message: Message) -> Result<Heard, AllocError> {
+    let heard = hear(alloc, Version::First, &message)?; // its reply, and the version in use then, or whether it is of this one
+    Ok(heard)
+}
+
 /// Whether the message of a row is what the row says.
 fn is_wanted(alloc: Global, row: &Row) -> Result<bool, Fail> {
     let messages = messages_of(alloc, KindSet::Standard, row.message, MAX_LIMIT)?;
@@ -96,6 +102,20 @@ fn is_wanted(alloc: Global, row: &Row) -> Result<bool, Fail> {
 
 #[test]
 fn llrp_versions_example(rt: HostRuntime) -> Result<(), Fail> {
+    let alloc = rt.alloc();
+    for message in messages_of(
+        alloc,
+        KindSet::Standard,
+        b"0 KEEPALIVE_ACK 1 9\n",
+        MAX_LIMIT,
+    )? {
+        assert!(rt; matches!(llrp_versions_at_first(alloc, message)?, Heard::InUse));
+    }
+    Ok(())
+}
+
+#[test]
+fn messages_are_heard_by_their_versions(rt: HostRuntime) -> Result<(), Fail> {
     for row in &ROWS {
         assert!(rt; is_wanted(rt.alloc(), row)?);
     }
