@@ -32,13 +32,15 @@ Arguments:
   [FILE]...  The files to read; without one, and for -, standard input
 
 Options:
-      --hex              Read hexadecimal digits in place of bytes
-      --all              Take every message and parameter of LLRP 1.1
-      --limit <N>        The most octets that a message may have [default: 65536]
-      --json             Write lines of JSON in place of the listing
-      --names <SET>      The names of fields with --json: those of the profile, or of the standard
-      --segments <PORT>  Read tshark's lines of a capture; the port is the reader's
-  -h, --help             Print help
+      --hex                Read hexadecimal digits in place of bytes
+      --all                Take every message and parameter of LLRP 1.1
+      --limit <N>          The most octets that a message may have [default: 65536]
+      --json               Write lines of JSON in place of the listing
+      --names <SET>        The names of fields with --json: those of the profile, or of the standard
+      --keys               Print the key of each EPC after it, as gtin 80614141123458 6789
+      --schemes <SCHEMES>  The schemes of EPCs: all, which has GIAI-96 and GSRNP-96 too
+      --segments <PORT>    Read tshark's lines of a capture; the port is the reader's
+  -h, --help               Print help
 
 Reads a stream of LLRP messages on standard input, or each FILE as a stream by itself, and prints its
 listing on standard output:
@@ -53,6 +55,8 @@ docs/tables.md leaves out of its set; with --all they are those of the whole sta
 is 0 if all frames are messages and the last one is whole, and 1 if not. With --json each frame is one
 line of JSON in place of its lines, as docs/json.md says; with --names standard its fields have the
 names that they have with --all, and with --names profile, or without it, those of their own set.
+With --keys a tab and the key of an EPC follow it, and with --schemes all words of GIAI-96 and GSRNP-96
+have their tag URIs; both read all of the input first, and go with no --json.
 With --segments the input is lines that examples/capture.sh makes of a capture. A line # TIME STREAM SIDE
 stands before each frame, where SIDE is reader or client, and PORT is the reader's; ? GAP N says that N
 bytes of that side are in no frame, since a segment is missing. With --json these are members.
@@ -73,11 +77,13 @@ Arguments:
   [FILE]...  The files to read; without one, and for -, standard input
 
 Options:
-      --hex        Write hexadecimal digits in place of bytes
-      --all        Take every message and parameter of LLRP 1.1
-      --limit <N>  The most octets that a message may have [default: 65536]
-      --json       Read lines of JSON in place of a listing
-  -h, --help       Print help
+      --hex                Write hexadecimal digits in place of bytes
+      --all                Take every message and parameter of LLRP 1.1
+      --limit <N>          The most octets that a message may have [default: 65536]
+      --json               Read lines of JSON in place of a listing
+      --keys               Read lines that have the key of an EPC after it, and compare it
+      --schemes <SCHEMES>  The schemes of EPCs: all, which has GIAI-96 and GSRNP-96 too
+  -h, --help               Print help
 
 Reads a listing on standard input, or each FILE as a listing by itself, a line 0 NAME VERSION ID for
 each message, and writes the bytes of the messages on standard output. A line that is refused ends its
@@ -85,7 +91,9 @@ listing with status 1, and is named on standard error with the reason, which doc
 so is a message of more octets than --limit, where N is 10 to 1,048,576, or a parameter more than
 16 levels deep. The names are those of the set of docs/tables.md, or with --all those of the whole
 standard. With --json it reads lines as show --json writes them, with the members of an object in any
-order; docs/json.md has the reasons. Of several files the greatest status counts, as for show.
+order; docs/json.md has the reasons. With --keys and --schemes all it reads all of a listing that show
+writes with them, and refuses a key that is not that of its EPC. Of several files the greatest status
+counts, as for show.
 
 Example:
   $ echo 0 KEEPALIVE 2 7 | llrp encode --hex
@@ -147,6 +155,8 @@ Options:
       --all             Answer requests of general clients outside the set besides
       --bind <ADDRESS>  The address to listen on; without it 127.0.0.1
       --clients <N>     How many clients to serve, one after another; without it 1, and 0 for no end
+      --clock <CLOCK>   Let time pass by itself: real, or real*N for N times as fast
+      --answers <FILE>  Answer by FILE what the reader does not know; with --clock
       --ready           Say on standard error where it listens, once it does
   -h, --help            Print help
 
@@ -165,6 +175,19 @@ beginning; the exit status is the greatest of theirs. With --ready the line
   llrp: listening on ADDRESS:PORT
 stands on standard error as soon as a client can connect. --bind ADDRESS listens there; LLRP has no
 password, so let it be an address that only your own machines can reach.
+
+With --clock real time passes by itself, and with real*N N times as fast: KEEPALIVEs and the ends of
+ROSpecs come when they are due, and the requests of --all are answered. A script may then have lines
+with a moment too, where TIME is such as 500ms or 2s:
+  accepted+TIME WHAT                 this long after the connection was accepted
+  started+TIME WHAT                  this long after a ROSpec first became active
+  MOMENT every TIME for TIME WHAT    again and again, beginning at such a moment
+WHAT is seen ANTENNA RSSI TEXT, tick, close (the reader closes the connection) or silent TIME (it sends
+nothing for that long, and then what it has to say).
+
+A connection begins in version 1, and SET_PROTOCOL_VERSION changes it; a message of another version is
+refused. --answers FILE answers messages that are not in docs/tables.md: a line ? FORM, and the messages
+to answer with, as show --all lists them. FORM is a request's line there; a word * stands for any.
 
 Example:
   $ printf '2 5 tick\\n' | llrp sim 5084
