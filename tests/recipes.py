@@ -31,7 +31,7 @@ from parts.repository import TOP
 
 PAGE = "docs/recipes.md"
 # How many commands the page has that are run.
-COMMANDS = 76
+COMMANDS = 78
 # How long a recipe may take, in seconds.
 LONGEST = 120
 UNIT = "examples/systemd/llrp-watch@.service"
