@@ -6,6 +6,7 @@ import os
 import pathlib
 import socket
 import subprocess
+from typing import Iterator
 
 import pytest
 
@@ -13,24 +14,24 @@ SCRIPT = pathlib.Path(__file__).parent.parent / "sightings.script"
 
 
 @pytest.fixture
-def reader():
+def reader() -> Iterator[int]:
     """The port of a simulated reader, once it listens."""
     with socket.create_server(("127.0.0.1", 0)) as free:
         port = free.getsockname()[1]
     words = [os.environ.get("LLRP", "llrp"), "sim", str(port), "--all", "--ready"]
     with open(SCRIPT, encoding="utf-8") as script, subprocess.Popen(words, stdin=script, stderr=subprocess.PIPE, text=True) as run:
-        assert "listening" in run.stderr.readline()
+        assert run.stderr and "listening" in run.stderr.readline()
         yield port
         run.kill()
 
 
-def test_is_accepted(reader):
+def test_is_accepted(reader: int) -> None:
     with socket.create_connection(("127.0.0.1", reader), timeout=10) as client:
         # READER_EVENT_NOTIFICATION of 32 octets, whose last parameter is ConnectionAttemptEvent 0
         assert client.recv(32, socket.MSG_WAITALL).endswith(bytes.fromhex("0100 0006 0000"))
 
 
-def test_says_goodbye(reader):
+def test_says_goodbye(reader: int) -> None:
     with socket.create_connection(("127.0.0.1", reader), timeout=10) as client:
         client.recv(32, socket.MSG_WAITALL)
         client.sendall(bytes.fromhex("040E 0000000A 00000005"))
