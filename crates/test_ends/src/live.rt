@@ -182,11 +182,11 @@ fn is_served(
     let up = octets(alloc, &[row.up])?;
     let mut sent: Vec<Message> = Vec::new(alloc);
     let mut closes = false;
-    for piece in up.as_slice().chunks(cut) {
+    for piece in up.as_slice().chunks(cut.max(1)) {
         closes = reader.feed(now, piece, &mut sent)?;
     }
     let mut later: Vec<Message> = Vec::new(alloc);
-    reader.happen(now + SECOND, ReaderIn::Tick, &mut later)?;
+    reader.happen(now.saturating_add(SECOND), ReaderIn::Tick, &mut later)?;
     let is_said = are_spelled(alloc, sent.as_slice(), row.down)?;
     Ok(is_said && are_spelled(alloc, later.as_slice(), row.later)? && closes == row.closes)
 }
@@ -207,7 +207,7 @@ fn are_served(alloc: Global, cut: usize) -> Result<bool, ToolErr> {
         if !is_served(alloc, &mut reader, now, row, cut)? {
             return Ok(false);
         }
-        now += SECOND;
+        now = now.saturating_add(SECOND);
     }
     Ok(true)
 }

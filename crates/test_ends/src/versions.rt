@@ -82,22 +82,22 @@ fn llrp_versions_at_first(alloc: Global, message: Message) -> Result<Heard, Allo
 /// Whether the message of a row is what the row says.
 fn is_wanted(alloc: Global, row: &Row) -> Result<bool, Fail> {
     let messages = messages_of(alloc, KindSet::Standard, row.message, MAX_LIMIT)?;
-    let mut count = 0;
+    let mut wanted = false;
     for message in &messages {
         match (hear(alloc, row.version, message)?, &row.wanted) {
-            (Heard::InUse, Wanted::InUse) | (Heard::Other, Wanted::Other) => count += 1,
+            (Heard::InUse, Wanted::InUse) | (Heard::Other, Wanted::Other) => wanted = true,
             (Heard::Answered { reply, version }, Wanted::Answered(frame, then)) => {
                 let mut sent = Vec::new(alloc);
                 sent.push(reply)?;
                 let spelled = are_spelled(alloc, sent.as_slice(), &[*frame])?;
                 if spelled && version == *then {
-                    count += 1;
+                    wanted = true;
                 }
             }
             _ => return Ok(false),
         }
     }
-    Ok(count == 1)
+    Ok(wanted)
 }
 
 #[test]
