@@ -60,8 +60,8 @@ fn objects_with_a_moment_and_a_name(rt: HostRuntime) -> Result<(), ToolErr> {
     assert!(rt; text.starts_with(b"{\"at\":\""));
     assert!(rt; has_moment(text, 7));
     let named = b"\",\"reader\":\"dock \\\"1\\\"\",";
+    assert!(rt; text.len() == 34 + named.len() + MEMBERS.len());
     let (_, after) = text.split_at(34);
     assert!(rt; after.starts_with(named) && after.ends_with(MEMBERS));
-    assert!(rt; text.len() == 34 + named.len() + MEMBERS.len());
     Ok(())
 }
