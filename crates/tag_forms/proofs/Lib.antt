@@ -1,4 +1,5 @@
 pub mod HexLemmas
 pub mod FormLemmas
+pub mod AllLemmas
 pub mod ListLemmas
 pub mod PrefixLemmas

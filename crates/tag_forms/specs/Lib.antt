@@ -3,6 +3,9 @@ pub mod Forms
 pub mod Faults
 pub mod Answers
 pub mod Objects
+pub mod AllForms
+pub mod AllAnswers
+pub mod AllObjects
 pub mod Wanted
 pub mod Prefixes
 pub mod Company

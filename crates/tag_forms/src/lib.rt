@@ -7,12 +7,17 @@
 //! key does not say how many digits its company prefix has: the caller says it, or a table of [`Prefixes`]; [`Company`] is one or the
 //! other.
 //!
+//! [`form_in_all`] and [`read_in_all`] go between words and texts in the set of all schemes, and [`Wanted`] has answers of that set.
+//!
 //! ```
 //! let text = text_in(word, Form::Key); // gtin 80614141123458 6789
 //! let word = word_in("(01)80614141123458(21)6789", Form::Element, 3, Some(7))?;
 //! ```
 #![tactic(auto)]
 
+mod all_answers;
+mod all_forms;
+mod all_objects;
 mod answer;
 mod company;
 mod fault;
@@ -28,6 +33,8 @@ mod read_form;
 mod wanted;
 mod write_form;
 
+pub use all_answers::{push_forms_in_all, push_refusal_in_all};
+pub use all_forms::{AllFault, form_in_all, read_in_all};
 pub use answer::{push_answer, push_refusal};
 pub use company::Company;
 pub use fault::FormFault;

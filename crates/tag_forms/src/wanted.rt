@@ -4,6 +4,8 @@ ghost use Rattle.std.specs.Prelude.{◌≡◌, ◌++◌, ◌<◌, List, ℕ, IfO
 ghost use Rattle.std.specs.Int.{IsInRange};
 ghost use Rattle.tag_forms.specs.Wanted.{IsWantedAnswer, line_refusal};
 
+use crate::all_answers::push_answer_in_all;
+use crate::all_objects::{push_member_answer_in_all, push_object_answer_in_all};
 use crate::answer::push_answer;
 use crate::form::Form;
 use crate::member::push_member_answer;
@@ -19,6 +21,12 @@ pub enum Wanted {
     Member(Form),
     /// An object of JSON with all forms of its word.
     Object,
+    /// The text in this form, in the set of all schemes.
+    TextInAll(Form),
+    /// An object with the text in this form, in the set of all schemes.
+    MemberInAll(Form),
+    /// An object with all forms, in the set of all schemes.
+    ObjectInAll,
 }
 
 /// Appends what is wanted of a text, which is read in the form that it begins as, and returns whether the text is refused.
@@ -39,6 +47,11 @@ pub fn push_wanted(
         Wanted::Text(to) => push_answer(answers, text, to, filter, company_digits),
         Wanted::Member(to) => push_member_answer(answers, text, to, filter, company_digits),
         Wanted::Object => push_object_answer(answers, text, filter, company_digits),
+        Wanted::TextInAll(to) => push_answer_in_all(answers, text, to, filter, company_digits),
+        Wanted::MemberInAll(to) => {
+            push_member_answer_in_all(answers, text, to, filter, company_digits)
+        }
+        Wanted::ObjectInAll => push_object_answer_in_all(answers, text, filter, company_digits),
     }
 }
 
@@ -51,10 +64,12 @@ pub(crate) fn push_line_refusal(
     ensures { OnOk result (answers.new.items ≡ answers.old.items ++ line_refusal wanted name.now) }
 {
     match wanted {
-        Wanted::Text(_) => {
+        Wanted::Text(_) | Wanted::TextInAll(_) => {
             answers.extend_from_slice(b"! ")?;
             answers.extend_from_slice(name.as_bytes())
         }
-        Wanted::Member(_) | Wanted::Object => push_refused(answers, name),
+        Wanted::Member(_) | Wanted::Object | Wanted::MemberInAll(_) | Wanted::ObjectInAll => {
+            push_refused(answers, name)
+        }
     }
 }

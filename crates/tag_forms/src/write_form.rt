@@ -28,7 +28,7 @@ pub fn text_in(word: Word, form: Form) -> Option<ArrayString<96>>
 }
 
 /// The text, in more room.
-fn copied(text: &str) -> ArrayString<96>
+pub(crate) fn copied(text: &str) -> ArrayString<96>
     requires { length text.now ≤ 64 }
     ensures { result.bytes ≡ text.now }
 {

@@ -3,4 +3,8 @@ pub mod WordFacts
 pub mod TextFacts
 pub mod WriteFacts
 pub mod SetFacts
+pub mod FaultFacts
+pub mod OneFault
+pub mod SupplierFacts
+pub mod SupplierTexts
 pub mod TextLaws

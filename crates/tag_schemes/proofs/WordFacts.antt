@@ -1,7 +1,6 @@
 -- The fields of words.
 use Rattle.std.proofs.Common.{◌≡◌, ℕ, ◌+◌, ◌-◌, ◌^◌, ◌<◌, Bool, List, [], ◌++◌, length, take, drop, Option, Some, refl, sym, ap, subst, ◌∙◌, arith, length-append}
 use Rattle.std.proofs.lemmas.List.{append_assoc, append-nil, take-append-drop, drop-drop}
-use Rattle.std.proofs.lemmas.Nat.{pow_pos}
 use Rattle.tag_bits.specs.Digits.{digits, word_digits, field}
 use Rattle.tag_bits.proofs.DigitLemmas.{length-digits, digits-injective, take-seam, drop-seam}
 use Rattle.tag_epc.specs.declared.scheme.Row.{Row}
@@ -10,9 +9,10 @@ use Rattle.tag_epc.proofs.DigitMoves.{none}
 use Rattle.tag_epc.specs.LawfulWord.{Field, Fits, AllFit, fields_digits}
 use Rattle.tag_schemes.specs.declared.numbers.Numbers.{Numbers}
 use Rattle.tag_schemes.specs.declared.scheme.Scheme.{Scheme}
-use Rattle.tag_schemes.specs.declared.scheme.Scheme.TheVariants.{Giai, Gsrnp}
+use Rattle.tag_schemes.specs.declared.scheme.Scheme.TheVariants.{Giai, Gsrnp, Sgcn, Cpi}
 use Rattle.tag_schemes.specs.Schemes.{layout_in}
-use Rattle.tag_schemes.specs.LawfulWord.{IsLawful, HasWord}
+use Rattle.tag_schemes.specs.LawfulWord.{IsLawful, HasSerial, HasWord}
+use Rattle.tag_schemes.specs.Private.LastSegments.{IsLastIn}
 use Rattle.tag_schemes.proofs.RowFacts.{Fills, fills}
 
 -- the digits of a word by its six segments
@@ -20,11 +20,11 @@ abbrev pub spelled_by : Layout → Row → ℕ → ℕ → ℕ → ℕ → ℕ �
 spelled_by l r f p c t n = digits 8 l.header ++ (digits 3 f ++ (digits 3 p ++ (digits r.company_bits c ++ (digits r.reference_bits t ++ (digits l.last_bits n ++ [])))))
 
 -- digits in front of others, after some
-field-seam : (xs ys zs : List Bool) (p w : ℕ) → length xs ≡ p → length ys ≡ w → field (xs ++ (ys ++ zs)) p w ≡ ys
+pub field-seam : (xs ys zs : List Bool) (p w : ℕ) → length xs ≡ p → length ys ≡ w → field (xs ++ (ys ++ zs)) p w ≡ ys
 field-seam xs ys zs p w e h = ap (λ (ds : List Bool). take w ds) (drop-seam p xs (ys ++ zs) e) ∙ take-seam w ys zs h
 
 -- a field and what follows it
-field-cut : (ds : List Bool) (p w : ℕ) → drop p ds ≡ field ds p w ++ drop (p + w) ds
+pub field-cut : (ds : List Bool) (p w : ℕ) → drop p ds ≡ field ds p w ++ drop (p + w) ds
 field-cut ds p w = sym (take-append-drop w (drop p ds)) ∙ ap (λ (x : List Bool). field ds p w ++ x) (drop-drop w p ds)
 
 -- nothing is left after all digits
@@ -57,13 +57,22 @@ pub record Told (m : Numbers) (ds : List Bool) : Type 0 where
   pub partition : ℕ
   pub placed : row_at (layout_in m.scheme) partition ≡ Some row
   pub counted : partition + m.company_digits ≡ 12
-  pub spelled : ds ≡ spelled_by (layout_in m.scheme) row m.filter partition m.company m.reference 0
+  pub spelled : ds ≡ spelled_by (layout_in m.scheme) row m.filter partition m.company m.reference m.last
   pub filter : m.filter < 2 ^ 3
   pub company_bits : m.company < 2 ^ row.company_bits
   pub company : m.company < 10 ^ row.company_digits
   pub reference_bits : m.reference < 2 ^ row.reference_bits
   pub reference : m.reference < 10 ^ row.reference_digits
+  pub last_bits : m.last < 2 ^ (layout_in m.scheme).last_bits
+  pub last : IsLastIn m.scheme m.last
   pub fills : Fills (layout_in m.scheme) partition row
+
+-- a last segment that fits
+pub last_in : (s : Scheme) (n : ℕ) → Fits (record { segment = last_segment (layout_in s); number = n }) → HasSerial s n → IsLastIn s n
+last_in Giai n h serial = let b : n < 10 ^ 0 = h.decimals in omega arith
+last_in Gsrnp n h serial = let b : n < 10 ^ 0 = h.decimals in omega arith
+last_in Sgcn n h serial = serial
+last_in Cpi n h serial = tt
 
 pub told : (m : Numbers) (w : ℕ) → HasWord m w → Told m (word_digits w)
 told m w h =
@@ -80,6 +89,8 @@ told m w h =
       company = all.1.1.1.0.decimals;
       reference_bits = all.1.1.1.1.0.bits;
       reference = all.1.1.1.1.0.decimals;
+      last_bits = all.1.1.1.1.1.0.bits;
+      last = last_in m.scheme m.last all.1.1.1.1.1.0 a.serial;
       fills = fills m.scheme a.has.partition a.has.row a.has.placed;
     }
 
@@ -89,9 +100,11 @@ same_number ds xs zs p w a b e at low below is =
     digits-injective w a b low below (is ∙ ap (λ (x : List Bool). field x p w) e ∙ field-seam xs (digits w b) zs p w at (length-digits w b))
 
 -- the header of each scheme has eight bits
-header_below : (s : Scheme) → (layout_in s).header < 2 ^ 8
+pub header_below : (s : Scheme) → (layout_in s).header < 2 ^ 8
 header_below Giai = omega arith
 header_below Gsrnp = omega arith
+header_below Sgcn = omega arith
+header_below Cpi = omega arith
 
 pub same_header : (m : Numbers) (ds : List Bool) (h : ℕ) → Told m ds → h < 2 ^ 8 → digits 8 h ≡ field ds 0 8 → h ≡ (layout_in m.scheme).header
 same_header m ds h t low is = same_number ds [] _ 0 8 h (layout_in m.scheme).header t.spelled refl low (header_below m.scheme) is
@@ -122,7 +135,7 @@ module _ (m : Numbers) (ds : List Bool) (t : Told m ds) where
   length_company = length-append head14 (digits t.row.company_bits m.company) ∙ omega (arith, length14, length-digits t.row.company_bits m.company)
 
   abbrev after_company : List Bool
-  after_company = digits t.row.reference_bits m.reference ++ (digits (layout_in m.scheme).last_bits 0 ++ [])
+  after_company = digits t.row.reference_bits m.reference ++ (digits (layout_in m.scheme).last_bits m.last ++ [])
 
   spelled11 : ds ≡ head11 ++ (digits 3 t.partition ++ (digits t.row.company_bits m.company ++ after_company))
   spelled11 = t.spelled ∙ sym (append_assoc head8 (digits 3 m.filter) _)
@@ -133,7 +146,7 @@ module _ (m : Numbers) (ds : List Bool) (t : Told m ds) where
   spelled_company : ds ≡ head_company ++ after_company
   spelled_company = spelled14 ∙ sym (append_assoc head14 (digits t.row.company_bits m.company) _)
 
-  spelled_last : ds ≡ (head_company ++ digits t.row.reference_bits m.reference) ++ (digits (layout_in m.scheme).last_bits 0 ++ [])
+  spelled_last : ds ≡ (head_company ++ digits t.row.reference_bits m.reference) ++ (digits (layout_in m.scheme).last_bits m.last ++ [])
   spelled_last = spelled_company ∙ sym (append_assoc head_company (digits t.row.reference_bits m.reference) _)
 
   pub same_partition : (p : ℕ) → p < 2 ^ 3 → digits 3 p ≡ field ds 11 3 → p ≡ t.partition
@@ -145,21 +158,21 @@ module _ (m : Numbers) (ds : List Bool) (t : Told m ds) where
   pub same_reference : (x : ℕ) → x < 2 ^ t.row.reference_bits → digits t.row.reference_bits x ≡ field ds (14 + t.row.company_bits) t.row.reference_bits → x ≡ m.reference
   same_reference x low is = same_number ds head_company _ (14 + t.row.company_bits) t.row.reference_bits x m.reference spelled_company length_company low t.reference_bits is
 
-  pub same_last : (x : ℕ) → x < 2 ^ (layout_in m.scheme).last_bits → digits (layout_in m.scheme).last_bits x ≡ field ds (14 + t.row.company_bits + t.row.reference_bits) (layout_in m.scheme).last_bits → x ≡ 0
+  pub same_last : (x : ℕ) → x < 2 ^ (layout_in m.scheme).last_bits → digits (layout_in m.scheme).last_bits x ≡ field ds (14 + t.row.company_bits + t.row.reference_bits) (layout_in m.scheme).last_bits → x ≡ m.last
   same_last x low is =
-      same_number ds (head_company ++ digits t.row.reference_bits m.reference) [] (14 + t.row.company_bits + t.row.reference_bits) (layout_in m.scheme).last_bits x 0 spelled_last
-      (length-append head_company (digits t.row.reference_bits m.reference) ∙ omega (arith, length_company, length-digits t.row.reference_bits m.reference)) low (pow_pos (layout_in m.scheme).last_bits) is
+      same_number ds (head_company ++ digits t.row.reference_bits m.reference) [] (14 + t.row.company_bits + t.row.reference_bits) (layout_in m.scheme).last_bits x m.last spelled_last
+      (length-append head_company (digits t.row.reference_bits m.reference) ∙ omega (arith, length_company, length-digits t.row.reference_bits m.reference)) low t.last_bits is
 
 -- ---- words that are made and read
 
 -- six segments written one after another
-pub written : (l : Layout) (r : Row) (f p c t h lb x1 x2 x3 x4 x5 x6 w : ℕ) → h ≡ l.header → lb ≡ l.last_bits → Fills l p r
+pub written : (l : Layout) (r : Row) (f p c t n h lb x1 x2 x3 x4 x5 x6 w : ℕ) → h ≡ l.header → lb ≡ l.last_bits → Fills l p r
     → digits 8 x1 ≡ digits 0 0 ++ digits 8 h → digits 11 x2 ≡ digits 8 x1 ++ digits 3 f → digits 14 x3 ≡ digits 11 x2 ++ digits 3 p
     → digits (14 + r.company_bits) x4 ≡ digits 14 x3 ++ digits r.company_bits c → digits (14 + r.company_bits + r.reference_bits) x5 ≡ digits (14 + r.company_bits) x4 ++ digits r.reference_bits t
-    → digits (14 + r.company_bits + r.reference_bits + lb) x6 ≡ digits (14 + r.company_bits + r.reference_bits) x5 ++ digits lb 0 → w ≡ x6
-    → word_digits w ≡ spelled_by l r f p c t 0
+    → digits (14 + r.company_bits + r.reference_bits + lb) x6 ≡ digits (14 + r.company_bits + r.reference_bits) x5 ++ digits lb n → w ≡ x6
+    → word_digits w ≡ spelled_by l r f p c t n
 unfolding word_digits
-written l r f p c t h lb x1 x2 x3 x4 x5 x6 w head bits fit e1 e2 e3 e4 e5 e6 same =
+written l r f p c t n h lb x1 x2 x3 x4 x5 x6 w head bits fit e1 e2 e3 e4 e5 e6 same =
     let all : 14 + r.company_bits + r.reference_bits + lb ≡ 96 = omega (arith, fit.fills, bits) in
     ap (λ (x : ℕ). digits 96 x) same ∙ ap (λ (k : ℕ). digits k x6) (sym all)
     ∙ rw (e6, e5, e4, e3, e2, e1, none, head, bits) (simp (append_assoc, append-nil) refl)
@@ -169,20 +182,33 @@ same_row a b e = cc
 
 -- the word of an EPC's segments is its word
 pub word_made : (m : Numbers) (a : IsLawful m) (r : Row) (w : ℕ) → row_at (layout_in m.scheme) (12 - m.company_digits) ≡ Some r
-    → word_digits w ≡ spelled_by (layout_in m.scheme) r m.filter (12 - m.company_digits) m.company m.reference 0 → HasWord m w
+    → word_digits w ≡ spelled_by (layout_in m.scheme) r m.filter (12 - m.company_digits) m.company m.reference m.last → HasWord m w
 word_made m a r w found s =
     let place : 12 - m.company_digits ≡ a.has.partition = omega (arith, a.has.counted) in
     let row : r ≡ a.has.row = same_row r a.has.row (sym found ∙ ap (λ (p : ℕ). row_at (layout_in m.scheme) p) place ∙ a.has.placed) in
     record {
       lawful = a;
-      spelled = s ∙ ap (λ (x : Row). spelled_by (layout_in m.scheme) x m.filter (12 - m.company_digits) m.company m.reference 0) row
-          ∙ ap (λ (p : ℕ). spelled_by (layout_in m.scheme) a.has.row m.filter p m.company m.reference 0) place ∙ sym (ap fields_digits a.has.filled);
+      spelled = s ∙ ap (λ (x : Row). spelled_by (layout_in m.scheme) x m.filter (12 - m.company_digits) m.company m.reference m.last) row
+          ∙ ap (λ (p : ℕ). spelled_by (layout_in m.scheme) a.has.row m.filter p m.company m.reference m.last) place ∙ sym (ap fields_digits a.has.filled);
     }
 
+-- a last segment that fits, and its serial number
+last_fits : (s : Scheme) (n : ℕ) → n < 2 ^ (layout_in s).last_bits → IsLastIn s n → Fits (record { segment = last_segment (layout_in s); number = n })
+last_fits Giai n bits h = record { bits = bits; decimals = omega (arith, h) }
+last_fits Gsrnp n bits h = record { bits = bits; decimals = omega (arith, h) }
+last_fits Sgcn n bits h = record { bits = bits; decimals = tt }
+last_fits Cpi n bits h = record { bits = bits; decimals = tt }
+
+serial_of : (s : Scheme) (n : ℕ) → IsLastIn s n → HasSerial s n
+serial_of Giai n h = tt
+serial_of Gsrnp n h = tt
+serial_of Sgcn n h = h
+serial_of Cpi n h = tt
+
 -- numbers in a row that fit are an EPC's
-pub in_row : (s : Scheme) (f k c t p : ℕ) (r : Row) → row_at (layout_in s) p ≡ Some r → k ≡ r.company_digits → f < 2 ^ 3 → c < 2 ^ r.company_bits → c < 10 ^ r.company_digits → t < 2 ^ r.reference_bits → t < 10 ^ r.reference_digits
-    → IsLawful (record { scheme = s; filter = f; company_digits = k; company = c; reference = t })
-in_row s f k c t p r placed digits_are filter company_bits company reference_bits reference =
+pub in_row : (s : Scheme) (f k c t n p : ℕ) (r : Row) → row_at (layout_in s) p ≡ Some r → k ≡ r.company_digits → f < 2 ^ 3 → c < 2 ^ r.company_bits → c < 10 ^ r.company_digits → t < 2 ^ r.reference_bits → t < 10 ^ r.reference_digits
+    → n < 2 ^ (layout_in s).last_bits → IsLastIn s n → IsLawful (record { scheme = s; filter = f; company_digits = k; company = c; reference = t; last = n })
+in_row s f k c t n p r placed digits_are filter company_bits company reference_bits reference last_bits last =
     let fit = fills s p r placed in
     record {
       fields = _;
@@ -193,29 +219,38 @@ in_row s f k c t p r placed digits_are filter company_bits company reference_bit
           record { bits = filter; decimals = tt },
           (
             record { bits = omega (arith, fit.partition); decimals = tt },
-            (record { bits = company_bits; decimals = company }, (record { bits = reference_bits; decimals = reference }, (last_zero s, tt))),
+            (record { bits = company_bits; decimals = company }, (record { bits = reference_bits; decimals = reference }, (last_fits s n last_bits last, tt))),
           ),
         ),
       );
+      serial = serial_of s n last;
     }
-  where
-    last_zero : (s : Scheme) → Fits (record { segment = last_segment (layout_in s); number = 0 })
-    last_zero Giai = record { bits = omega arith; decimals = omega arith }
-    last_zero Gsrnp = record { bits = omega arith; decimals = omega arith }
 
 -- numbers that are read are the word's
-pub read_is : (s : Scheme) (f k c t p : ℕ) (r : Row) (w : ℕ) → row_at (layout_in s) p ≡ Some r → k ≡ r.company_digits → f < 2 ^ 3 → c < 2 ^ r.company_bits → c < 10 ^ r.company_digits → t < 2 ^ r.reference_bits → t < 10 ^ r.reference_digits
-    → word_digits w ≡ spelled_by (layout_in s) r f p c t 0 → HasWord (record { scheme = s; filter = f; company_digits = k; company = c; reference = t }) w
+pub read_is : (s : Scheme) (f k c t n p : ℕ) (r : Row) (w : ℕ) → row_at (layout_in s) p ≡ Some r → k ≡ r.company_digits → f < 2 ^ 3 → c < 2 ^ r.company_bits → c < 10 ^ r.company_digits → t < 2 ^ r.reference_bits → t < 10 ^ r.reference_digits
+    → n < 2 ^ (layout_in s).last_bits → IsLastIn s n → word_digits w ≡ spelled_by (layout_in s) r f p c t n → HasWord (record { scheme = s; filter = f; company_digits = k; company = c; reference = t; last = n }) w
 unfolding in_row
-read_is s f k c t p r w placed digits_are filter company_bits company reference_bits reference spelled =
-    record { lawful = in_row s f k c t p r placed digits_are filter company_bits company reference_bits reference; spelled = spelled }
+read_is s f k c t n p r w placed digits_are filter company_bits company reference_bits reference last_bits last spelled =
+    record { lawful = in_row s f k c t n p r placed digits_are filter company_bits company reference_bits reference last_bits last; spelled = spelled }
 
 -- a scheme has one header
 pub one_scheme : (s t : Scheme) → (layout_in s).header ≡ (layout_in t).header → s ≡ t
 one_scheme Giai Giai e = refl
 one_scheme Giai Gsrnp e = absurd (omega (arith, e))
+one_scheme Giai Sgcn e = absurd (omega (arith, e))
 one_scheme Gsrnp Giai e = absurd (omega (arith, e))
 one_scheme Gsrnp Gsrnp e = refl
+one_scheme Gsrnp Sgcn e = absurd (omega (arith, e))
+one_scheme Sgcn Giai e = absurd (omega (arith, e))
+one_scheme Sgcn Gsrnp e = absurd (omega (arith, e))
+one_scheme Sgcn Sgcn e = refl
+one_scheme Giai Cpi e = absurd (omega (arith, e))
+one_scheme Gsrnp Cpi e = absurd (omega (arith, e))
+one_scheme Sgcn Cpi e = absurd (omega (arith, e))
+one_scheme Cpi Giai e = absurd (omega (arith, e))
+one_scheme Cpi Gsrnp e = absurd (omega (arith, e))
+one_scheme Cpi Sgcn e = absurd (omega (arith, e))
+one_scheme Cpi Cpi e = refl
 
 -- ---- what is read of the word of an EPC
 
@@ -246,7 +281,7 @@ pub record Reads (s : Scheme) (r : Row) (ds : List Bool) (c x n : ℕ) : Type 0 
 
 -- they fit
 pub numbers_fit : (m : Numbers) (w : ℕ) (s : Scheme) (h p c x n : ℕ) (found : Option Row) (r : Row) → HasWord m w → Looks s (word_digits w) h p found → found ≡ Some r → Reads s r (word_digits w) c x n
-    → (c < 10 ^ r.company_digits) × (x < 10 ^ r.reference_digits) × (n ≡ 0)
+    → (c < 10 ^ r.company_digits) × (x < 10 ^ r.reference_digits) × IsLastIn s n
 numbers_fit m w s h p c x n found r has a is b =
     let ds : List Bool = word_digits w in
     let t : Told m ds = told m w has in
@@ -255,18 +290,17 @@ numbers_fit m w s h p c x n found r has a is b =
     let reads : Reads m.scheme t.row ds c x n = subst (λ (y : Row). Reads m.scheme y ds c x n) (sym row) (subst (λ (y : Scheme). Reads y r ds c x n) place.0 b) in
     let company : c ≡ m.company = same_company m ds t c reads.company_below reads.company_digits in
     let reference : x ≡ m.reference = same_reference m ds t x reads.reference_below reads.reference_digits in
-    let last : n ≡ 0 = same_last m ds t n reads.last_below reads.last_digits in (
+    let last : n ≡ m.last = same_last m ds t n reads.last_below reads.last_digits in (
       subst (λ (y : Row). c < 10 ^ y.company_digits) row (rw company t.company),
       subst (λ (y : Row). x < 10 ^ y.reference_digits) row (rw reference t.reference),
-      last,
+      subst (λ (y : Scheme). IsLastIn y n) (sym place.0) (subst (λ (y : ℕ). IsLastIn m.scheme y) (sym last) t.last),
     )
 
 -- numbers that are read and fit are the word's
 pub numbers_are : (w : ℕ) (s : Scheme) (h p f c x n : ℕ) (found : Option Row) (r : Row) → Looks s (word_digits w) h p found → found ≡ Some r → f < 2 ^ 3 → digits 3 f ≡ field (word_digits w) 8 3 → Reads s r (word_digits w) c x n
-    → c < 10 ^ r.company_digits → x < 10 ^ r.reference_digits → n ≡ 0
-    → HasWord (record { scheme = s; filter = f; company_digits = r.company_digits; company = c; reference = x }) w
+    → c < 10 ^ r.company_digits → x < 10 ^ r.reference_digits → IsLastIn s n
+    → HasWord (record { scheme = s; filter = f; company_digits = r.company_digits; company = c; reference = x; last = n }) w
 numbers_are w s h p f c x n found r a is filter filter_digits b company reference last =
     let placed : row_at (layout_in s) p ≡ Some r = sym a.row ∙ is in
-    read_is s f r.company_digits c x p r w placed refl filter b.company_below company b.reference_below reference
-    (read_whole (layout_in s) r f p c x n h (word_digits w) (word_length w) (fills s p r placed) (sym a.header) a.header_digits filter_digits a.partition_digits b.company_digits b.reference_digits b.last_digits
-    ∙ ap (λ (y : ℕ). spelled_by (layout_in s) r f p c x y) last)
+    read_is s f r.company_digits c x n p r w placed refl filter b.company_below company b.reference_below reference b.last_below last
+    (read_whole (layout_in s) r f p c x n h (word_digits w) (word_length w) (fills s p r placed) (sym a.header) a.header_digits filter_digits a.partition_digits b.company_digits b.reference_digits b.last_digits)

@@ -1,5 +1,9 @@
 pub mod Schemes
 pub mod LawfulWord
+pub mod Suppliers
 pub mod Texts
+pub mod SupplierRules
 pub mod AllTexts
+pub mod WordFaults
 pub mod Calls
+pub mod Private

@@ -31,3 +31,18 @@ pub(crate) fn three<'a>(text: &'a str) -> Option<(&'a str, &'a str, &'a str)>
     };
     Some((first, second, third))
 }
+
+/// The components of a text that has four.
+pub(crate) fn four<'a>(text: &'a str) -> Option<(&'a str, &'a str, &'a str, &'a str)>
+    ensures some { IfSome result (λ x. components text.now
+        ≡ x.0.now ∷ x.1.now ∷ x.2.now ∷ x.3.now ∷ []) }
+    ensures none { IfNone result (length (components text.now) ≢ 4) }
+{
+    let (first, Some(rest)) = cut(text) else {
+        return None;
+    };
+    let Some((second, third, fourth)) = three(rest) else {
+        return None;
+    };
+    Some((first, second, third, fourth))
+}

@@ -1,4 +1,4 @@
-//! The rules that refuse the components of a GIAI-96.
+//! The rules that refuse the components of a GIAI-96, CPI-96 or USDoD-96.
 
 ghost use Rattle.std.specs.Prelude.{◌≡◌, ◌||◌, nat_lt, length};
 ghost use Rattle.tag_uri.specs.TagText.{is_strange as strange, is_zero_led as zero_led, is_no_filter as no_filter};
@@ -23,11 +23,33 @@ fn is_no_number(text: &str) -> bool
     is_strange(text) || text.is_empty()
 }
 
+/// Whether one of two texts has a character other than 0 to 9, or is empty.
+pub(crate) fn is_one_no_number_of_two(first: &str, second: &str) -> bool
+    ensures { result ≡ (no_number first.now || no_number second.now) }
+{
+    is_no_number(first) || is_no_number(second)
+}
+
 /// Whether one of three texts has a character other than 0 to 9, or is empty.
 pub(crate) fn is_one_no_number(first: &str, second: &str, third: &str) -> bool
     ensures { result ≡ (no_number first.now || (no_number second.now || no_number third.now)) }
 {
     is_no_number(first) || is_no_number(second) || is_no_number(third)
+}
+
+/// Whether one of four texts has a character other than 0 to 9, or is empty.
+pub(crate) fn is_one_no_number_of_four(first: &str, second: &str, third: &str, fourth: &str) -> bool
+    ensures { result ≡ (no_number first.now || (no_number second.now || (no_number third.now
+        || no_number fourth.now))) }
+{
+    is_no_number(first) || is_no_number(second) || is_no_number(third) || is_no_number(fourth)
+}
+
+/// Whether one of two texts has two or more characters and begins with 0.
+pub(crate) fn is_one_zero_led(first: &str, second: &str) -> bool
+    ensures { result ≡ (zero_led first.now || zero_led second.now) }
+{
+    is_zero_led(first) || is_zero_led(second)
 }
 
 /// Whether a text has two or more characters and begins with 0.

@@ -1,4 +1,4 @@
-//! The further schemes, and their rows.
+//! The further schemes with a company prefix, and their rows.
 
 ghost use Rattle.std.specs.Prelude.{◌≡◌, ◌≢◌, MatchOption, slice_get};
 ghost use Rattle.tag_epc.specs.Layout.{partition_table, row_at};
@@ -6,13 +6,17 @@ ghost use Rattle.tag_schemes.specs.Schemes.{layout_in};
 
 use tag_epc::scheme::Row;
 
-/// The further schemes of 96-bit EPCs (EPC Tag Data Standard 1.13, section 14.2).
+/// The further schemes of 96-bit EPCs with a company prefix (EPC Tag Data Standard 1.13, section 14.2).
 #[derive(Clone, Copy, PartialEq, Eq, Debug)]
 pub enum Scheme {
     /// Individual assets, GIAI-96.
     Giai,
     /// Service relations of providers, GSRNP-96.
     Gsrnp,
+    /// Coupons with a serial number, SGCN-96.
+    Sgcn,
+    /// Components and parts, CPI-96.
+    Cpi,
 }
 
 /// Bits of the company prefix by partition value, the same in each scheme.
@@ -42,6 +46,8 @@ impl Scheme {
         match self {
             Scheme::Giai => "giai-96",
             Scheme::Gsrnp => "gsrnp-96",
+            Scheme::Sgcn => "sgcn-96",
+            Scheme::Cpi => "cpi-96",
         }
     }
 
@@ -52,16 +58,20 @@ impl Scheme {
         match self {
             Scheme::Giai => 0x34,
             Scheme::Gsrnp => 0x2E,
+            Scheme::Sgcn => 0x3F,
+            Scheme::Cpi => 0x3C,
         }
     }
 
-    /// How many bits the last segment has, which are zeros.
+    /// How many bits the last segment has.
     pub(crate) fn last_bits(self) -> u32
         ensures { result ≡ (layout_in self).last_bits }
     {
         match self {
             Scheme::Giai => 0,
             Scheme::Gsrnp => 24,
+            Scheme::Sgcn => 41,
+            Scheme::Cpi => 31,
         }
     }
 
@@ -80,6 +90,16 @@ impl Scheme {
                 &[18, 21, 24, 28, 31, 34, 38], // bits of the service reference
                 &[5, 6, 7, 8, 9, 10, 11], // digits of the service reference
             ),
+            Scheme::Sgcn => row_of(
+                partition,
+                &[1, 4, 7, 11, 14, 17, 21], // bits of the coupon reference
+                &[0, 1, 2, 3, 4, 5, 6], // digits of the coupon reference
+            ),
+            Scheme::Cpi => row_of(
+                partition,
+                &[11, 14, 17, 21, 24, 27, 31], // bits of the component or part reference
+                &[3, 4, 5, 6, 7, 8, 9], // digits that it has at most
+            ),
         }
     }
 }
@@ -92,6 +112,8 @@ pub(crate) fn scheme_with(header: u8) -> Option<Scheme>
     match header {
         0x34 => Some(Scheme::Giai),
         0x2E => Some(Scheme::Gsrnp),
+        0x3F => Some(Scheme::Sgcn),
+        0x3C => Some(Scheme::Cpi),
         _ => None,
     }
 }

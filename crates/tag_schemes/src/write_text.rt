@@ -1,9 +1,10 @@
 //! Writes the tag URIs of further schemes.
 
-ghost use Rattle.std.specs.Prelude.{◌≡◌, ◌+◌, ◌≤◌, ◌++◌, length};
-ghost use Rattle.tag_uri.specs.Decimal.{padded};
-ghost use Rattle.tag_schemes.specs.LawfulWord.{IsLawful};
-ghost use Rattle.tag_schemes.specs.Texts.{reference_text, uri_in};
+ghost use Rattle.std.specs.Prelude.{◌≡◌, ◌+◌, ◌^◌, ◌<◌, ◌≤◌, ◌++◌, ◌∷◌, drop, length};
+ghost use Rattle.std.specs.List.{join_with_byte};
+ghost use Rattle.tag_uri.specs.Decimal.{padded, plain};
+ghost use Rattle.tag_schemes.specs.LawfulWord.{HasSerial, IsLawful};
+ghost use Rattle.tag_schemes.specs.Texts.{reference_text, serial_texts, uri_in};
 
 use crate::numbers::Numbers;
 use crate::scheme::Scheme;
@@ -26,12 +27,38 @@ fn push_padded(text: &mut ArrayString<64>, count: u32, number: u64)
     push_padded(text, count - 1, number);
 }
 
-/// Appends the reference of an EPC.
+/// Appends the digits of a number that has eleven at most.
+pub(crate) fn push_short(text: &mut ArrayString<64>, number: u64)
+    requires few { number < 10 ^ 11 }
+    requires room { length text.old.bytes ≤ 53 }
+    ensures digits { text.new.bytes ≡ text.old.bytes ++ plain number }
+    ensures len { length text.new.bytes ≤ length text.old.bytes + 11 }
+{
+    let mut digits = Buffer::new();
+    text.push_str(digits.format(number));
+}
+
+/// Appends a dot, and the serial number that is in the last segment of an SGCN-96.
+fn push_serial(text: &mut ArrayString<64>, last: u64)
+    requires serial { HasSerial Scheme.Sgcn last }
+    requires bits { last < 2 ^ 41 }
+    requires room { length text.old.bytes ≤ 51 }
+    ensures { text.new.bytes ≡ text.old.bytes ++ (46 ∷ drop 1 (plain last)) }
+{
+    let mut digits = Buffer::new();
+    text.push_str(".");
+    match digits.format(last).strip_prefix("1") {
+        Some(serial) => text.push_str(serial),
+        None => unreachable!(),
+    }
+}
+
+/// Appends the reference of an EPC, and of an SGCN-96 and CPI-96 the serial number.
 fn push_reference(text: &mut ArrayString<64>, epc: Numbers)
     requires lawful { IsLawful epc }
     requires room { length text.old.bytes ≤ 40 }
-    ensures { text.new.bytes ≡ text.old.bytes ++ reference_text epc.scheme epc.company_digits
-        epc.reference }
+    ensures { text.new.bytes ≡ text.old.bytes ++ join_with_byte 46
+        (reference_text epc.scheme epc.company_digits epc.reference ∷ serial_texts epc.scheme epc.last) }
 {
     let Some(row) = epc.scheme.row(12 - epc.company_digits) else {
         unreachable!()
@@ -42,6 +69,15 @@ fn push_reference(text: &mut ArrayString<64>, epc: Numbers)
             text.push_str(digits.format(epc.reference));
         }
         Scheme::Gsrnp => push_padded(text, row.reference_digits, epc.reference),
+        Scheme::Sgcn => {
+            push_padded(text, row.reference_digits, epc.reference);
+            push_serial(text, epc.last);
+        }
+        Scheme::Cpi => {
+            push_short(text, epc.reference);
+            text.push_str(".");
+            push_short(text, epc.last);
+        }
     }
 }
 

@@ -8,7 +8,7 @@ use crate::numbers::Numbers;
 use tag_bits::Word;
 
 /// The number of `count` binary digits with the `width` digits of `value` after them.
-fn pushed(number: u128, count: u32, width: u32, value: u64) -> u128
+pub(crate) fn pushed(number: u128, count: u32, width: u32, value: u64) -> u128
     requires room { count + width ≤ 96 }
     requires narrow { width < 64 }
     requires below { number < 2 ^ count }
@@ -35,7 +35,7 @@ pub fn word_of(epc: Numbers) -> Word
     let leading = pushed(filter, 11, 3, partition as u64);
     let company = pushed(leading, 14, row.company_bits, epc.company);
     let reference = pushed(company, reference_at, row.reference_bits, epc.reference);
-    let number = pushed(reference, last_at, epc.scheme.last_bits(), 0);
+    let number = pushed(reference, last_at, epc.scheme.last_bits(), epc.last);
     match Word::new(number) {
         Some(word) => word,
         None => unreachable!(),

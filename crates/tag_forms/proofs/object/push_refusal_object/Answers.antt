@@ -1,4 +1,4 @@
-use Rattle.std.proofs.Common.{◌≡◌, ◌∙◌, ◌++◌, List, ℕ, ap, codes}
+use Rattle.std.proofs.Common.{◌∙◌, ◌++◌, List, ℕ, ap, codes}
 use Rattle.std.proofs.lemmas.Result.{on_ok_weaker}
 use Rattle.tag_forms.specs.Faults.{form_fault_name}
 use Rattle.tag_forms.specs.Objects.{right_member}

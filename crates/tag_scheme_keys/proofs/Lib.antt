@@ -1,0 +1,9 @@
+pub mod TagLaws
+pub mod IdLaws
+pub mod OneFault
+pub mod OlderKeys
+pub mod PlainKeys
+pub mod PartPieces
+pub mod KeyLaws
+pub mod KeyFaultLaws
+pub mod OneKeyFault

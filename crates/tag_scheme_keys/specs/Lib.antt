@@ -1,0 +1,3 @@
+pub mod PureIdentity
+pub mod KeyText
+pub mod KeyFaults

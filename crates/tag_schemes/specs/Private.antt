@@ -1,0 +1,3 @@
+-- Words of private functions: no public contract names one.
+pub mod LastSegments
+pub mod Coupons
