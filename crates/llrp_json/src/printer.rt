@@ -23,7 +23,7 @@ use crate::openings::opening;
 use crate::values::{push_field, push_field_name, push_inside, push_value, push_words};
 use llrp_listing::{ItemPrinter, Text};
 use llrp_schema::{Field, Kind, MsgKind, ParamKind, Tail, fields, name};
-use llrp_stream::{End, Listener};
+use llrp_stream::{End, Listener, Stopped};
 use llrp_tree::Fault;
 use std::alloc::{AllocError, Global};
 
@@ -308,6 +308,8 @@ impl Listener for JsonPrinter {
 
     ghost ends = { λ self was m now. AppendsMessage m was now };
 
+    ghost faulty = { λ self was t octets fault. Unit {0} };
+
     fn message(
         &mut self,
         version: u8,
@@ -360,6 +362,10 @@ impl Listener for JsonPrinter {
 
     fn end(&mut self) -> Result<(), AllocError> {
         self.end_line()
+    }
+
+    fn fault(&mut self, _fault: Fault, _stopped: Option<Stopped>, _octets: &[u8]) {
+        self.give_up();
     }
 
     fn give_up(&mut self) {

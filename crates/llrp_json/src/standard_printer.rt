@@ -11,7 +11,7 @@ use crate::names::{standard_message, standard_parameter};
 use crate::printer::JsonPrinter;
 use llrp_listing::ItemPrinter;
 use llrp_schema::{Field, Kind, MsgKind, ParamKind, Tail, fields};
-use llrp_stream::{End, Listener};
+use llrp_stream::{End, Listener, Stopped};
 use llrp_tree::Fault;
 use std::alloc::{AllocError, Global};
 
@@ -45,6 +45,8 @@ impl Listener for StandardPrinter {
         self.printer.is_parent self.printer.text was (standard_chain t) };
 
     ghost ends = { λ self was m now. AppendsMessage (in_standard m) was now };
+
+    ghost faulty = { λ self was t octets fault. Unit {0} };
 
     fn message(
         &mut self,
@@ -93,6 +95,10 @@ impl Listener for StandardPrinter {
 
     fn end(&mut self) -> Result<(), AllocError> {
         self.printer.end_line()
+    }
+
+    fn fault(&mut self, _fault: Fault, _stopped: Option<Stopped>, _octets: &[u8]) {
+        self.give_up();
     }
 
     fn give_up(&mut self) {

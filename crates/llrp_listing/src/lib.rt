@@ -37,7 +37,7 @@ pub use hex_input::{bytes_of_hex, push_hexadecimal};
 pub use item_printer::ItemPrinter;
 pub use outcome::{Refusal, ToolErr, Verdict, error_of};
 pub use parse_line::{LONGEST_LINE, LONGEST_WHOLE_LINE};
-pub use printing::Text;
+pub use printing::{Printer, Text};
 pub use reason::reason_name;
 pub use show::{
     list_stream, list_stream_in, list_stream_with, run_show, run_show_in, run_show_with,

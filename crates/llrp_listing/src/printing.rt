@@ -8,5 +8,5 @@ mod put;
 mod tails;
 mod text;
 
-pub(crate) use printer::Printer;
+pub use printer::Printer;
 pub use text::Text;

@@ -69,7 +69,7 @@ overflow_data_lawful now = lawful_from ReaderEventNotificationData [] [] _ tt re
 
 -- ---- messages
 
-sendable : (v id : ℕ) (kind : MsgKind) (values : List ℕ) (f : Forest) (limit : ℕ) → set_of_kind (Message kind) ≡ Profile → (v ≡ 1) ⊎ (v ≡ 2) → id < 2 ^ 32 → AllLawful f → first_message_fault 1 kind values [] f ≡ None
+pub sendable : (v id : ℕ) (kind : MsgKind) (values : List ℕ) (f : Forest) (limit : ℕ) → set_of_kind (Message kind) ≡ Profile → (v ≡ 1) ⊎ (v ≡ 2) → id < 2 ^ 32 → AllLawful f → first_message_fault 1 kind values [] f ≡ None
     → message_octets (record { version = v; id = id; kind = kind; fields = values; tail = []; children = f }) ≤ limit
     → IsSendable limit (record { version = v; id = id; kind = kind; fields = values; tail = []; children = f })
 sendable v id kind values f limit own version small children passes short =

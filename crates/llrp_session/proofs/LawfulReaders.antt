@@ -32,7 +32,7 @@ messages-append limit (x ∷ xs) m h g = (h.0, messages-append limit xs m h.1 g)
 
 -- ---- tables
 
-told-change : (f : ℕ → RoState → RoState) (t : List Entry) → AreToldOf t → AreToldOf (change f t)
+pub told-change : (f : ℕ → RoState → RoState) (t : List Entry) → AreToldOf t → AreToldOf (change f t)
 unfolding change
 told-change f [] h = tt
 told-change f (e ∷ es) h = (h.0, told-change f es h.1)
@@ -52,7 +52,7 @@ told-enter s (e ∷ es) g h =
       | false ↦ elim (nat_lt s.id e.spec.id) as (λ b. AreToldOf (cond b (new ∷ e ∷ es) (e ∷ enter s es))) [ true ↦ (g, h) | false ↦ (h.0, told-enter s es g h.1) ]
     ]
 
-fits-change : (limit : ℕ) (f : ℕ → RoState → RoState) (t : List Entry) → FitsLimit limit t → FitsLimit limit (change f t)
+pub fits-change : (limit : ℕ) (f : ℕ → RoState → RoState) (t : List Entry) → FitsLimit limit t → FitsLimit limit (change f t)
 fits-change limit f t h = let e = octets-change f t in omega (arith, e, h)
 
 fits-without : (limit n : ℕ) (t : List Entry) → FitsLimit limit t → FitsLimit limit (without n t)

@@ -15,6 +15,7 @@ pub mod WorldExchange
 pub mod TableLemmas
 pub mod ThreeAtMost
 pub mod LawfulReaders
+pub mod NextClients
 pub mod LawfulRequests
 pub mod ReportLemmas
 pub mod ToldOfLawful
@@ -25,6 +26,7 @@ pub mod ListedLemmas
 pub mod ListedParts
 pub mod NamedTwice
 pub mod LawfulMessages
+pub mod LawfulSideEvents
 pub mod LawfulParts
 pub mod ToldMessages
 pub mod ReadFields

@@ -12,4 +12,7 @@ pub mod ReadWords
 pub mod MessageAgreement
 pub mod ReaderSteps
 pub mod Answers
+pub mod NextClient
+pub mod Due
+pub mod SideEvents
 pub mod ClientSteps

@@ -2,10 +2,13 @@
 
 mod messages;
 
-ghost use Rattle.std.specs.Prelude.{◌≡◌, ℕ, ◌^◌, ◌<◌, ◌≤◌, length, IfOk};
+ghost use Rattle.std.specs.Prelude.{◌≡◌, ℕ, ◌^◌, ◌<◌, ◌≤◌, length, IfOk, IfSome, None, Ok};
 ghost use Rattle.llrp_session.specs.Calls.Sightings.{AfterAllEvents, ReportsInOrder, OverflowsTold, HoldsFewEnough, OneActive as OneIsActive};
 ghost use Rattle.llrp_session.specs.Contents.{Command, Heard};
-ghost use Rattle.llrp_session.specs.ReaderMachine.{Reader, ReaderEvent, new_reader, next};
+ghost use Rattle.llrp_session.specs.Table.{active};
+ghost use Rattle.llrp_session.specs.ReaderMachine.{Reader, ReaderEvent, Tick, Up, new_reader, next, turn_begun};
+ghost use Rattle.llrp_session.specs.Calls.NextClient.{for_next_client};
+ghost use Rattle.llrp_session.specs.Calls.Due.{next_due};
 ghost use Rattle.llrp_session.specs.ClientMachine.{Client, command, take};
 ghost use Rattle.llrp_session.specs.Calls.LawfulWords.{IsLawfulClientMessage};
 ghost use Rattle.llrp_tree.specs.Lawful.{IsLawfulMessage};
@@ -64,6 +67,24 @@ pub fn tables_are_maps()
 pub fn three_messages_at_most()
     ensures { (now : ℕ) (event : ReaderEvent) (reader : Reader)
         → IfOk (next now event reader) (λ turn. length turn.sent ≤ 3) }
+{}
+
+/// A reader that its client has left is as lawful as before, its own ids go on, and none of its
+/// ROSpecs is active.
+#[tactic(auto, using(crate::proofs::NextClients::lawful_for_next, crate::proofs::NextClients::none_active))]
+pub fn leaving_keeps_what_is_lawful()
+    ensures lawful { (reader : Reader) → IsLawfulReader reader
+        → IsLawfulReader (for_next_client reader) }
+    ensures ids { (reader : Reader) → (for_next_client reader).next_id ≡ reader.next_id }
+    ensures idle { (reader : Reader) → active (for_next_client reader).table ≡ None }
+{}
+
+/// Before the moment at which a reader next does something by itself, time changes nothing.
+#[tactic(auto, using(crate::proofs::NextClients::still_before))]
+pub fn nothing_happens_before_it_is_due()
+    ensures { (now : ℕ) (reader : Reader) → reader.phase ≡ Up
+        → IfSome (next_due reader) (λ moment. now < moment)
+        → next now Tick reader ≡ Ok (turn_begun reader) }
 {}
 
 /// If the numbers of a reader or client, and of what it is given, fit the types that hold them,

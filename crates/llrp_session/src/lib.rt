@@ -27,7 +27,9 @@ pub use parse::find::{field, first};
 pub use parse::stored_rospec::RoSpec;
 pub use reader::Reader;
 pub use reader::events::{ReaderIn, StepFault, StepRefusal};
+pub use reader::side_events::SideEvent;
 pub use reader::table::Entry;
+pub use reader::timers::sooner;
 pub use types::{
     ClientPhase, Command, ContentSelector, Keepalive, Operation, Pending, ReaderPhase, ReportSpec,
     RoState, Sighting, Taken, Viewed,

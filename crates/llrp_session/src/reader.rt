@@ -6,13 +6,15 @@
 
 mod end_rospec;
 pub(crate) mod events;
+mod next_client;
 mod requests;
 mod rospecs;
 mod settings;
+pub(crate) mod side_events;
 mod sightings;
 pub(crate) mod status;
 pub(crate) mod table;
-mod timers;
+pub(crate) mod timers;
 mod turn;
 
 ghost use Rattle.std.specs.Prelude.{◌≡◌, ◌≤◌, ◌<◌, OnOk, OnErr, IfErr, vec_len, vec_capacity};
@@ -122,7 +124,9 @@ impl Reader {
 
     /// The greatest length of a message, in octets.
     pub fn limit(&self) -> u32
-        ensures { result ≡ self.now.limit }
+        ensures limit { result ≡ self.now.limit }
+        ensures least { 4096 ≤ result }
+        ensures greatest { result ≤ MAX_LIMIT }
     {
         self.limit
     }

@@ -28,12 +28,12 @@ use Rattle.llrp_stream.specs.Calls.Front.{Reaches}
 use Rattle.llrp_stream.specs.Private.Front.{TellsAt, TellsFor}
 use Rattle.llrp_stream.specs.Calls.Received.{with_child}
 use Rattle.llrp_stream.specs.Calls.Reading.{HasReadTo, IsAtStage, IsResting, IsLevel, AreLevels, with_begun}
-use Rattle.llrp_stream.specs.Private.Reading.{HeadFails}
+use Rattle.llrp_stream.specs.Private.Reading.{HasHead, HeadFails}
 use Rattle.llrp_stream.proofs.Reached.{stands_in, reaches_in, seen}
 use Rattle.std.proofs.lemmas.Bool.{lt-leb}
 use Rattle.llrp_stream.specs.Calls.Front.{IsUndecided}
-use Rattle.llrp_stream.proofs.WaitLemmas.{child_waits}
-use Rattle.llrp_stream.proofs.FaultTrees.{tells_at, extra_tells_at, tv_tells_at, tlv_tells_at}
+use Rattle.llrp_stream.proofs.WaitLemmas.{child_decided, child_waits, decided}
+use Rattle.llrp_stream.proofs.FaultTrees.{decided_for, tells_at, extra_tells_at, tv_tells_at, tlv_tells_at}
 
 pub levels_length : (ls : List StackNode) (kind : Kind) (outer : List Begun) → AreLevels ls kind outer → length ls ≡ length outer
 levels_length [] kind [] a = refl
@@ -103,8 +103,26 @@ module _ (r : BodyReader) (front : List ℕ) (b : Begun) (outer : List Begun) (r
     not_over : has_ended b.head (nat_le b.stop (8 * r.at)) ≡ false
     not_over = under_at b.head r.top.kind b.stop (8 * r.at) outer rd.level.kind (head_in b outer resting.reaches.is_open) before_stop long
 
-    pub head_tells : (e : FrameErr) → ((later : List Bool) → HeadFails (set_of_kind r.top.kind) (groups_of r.top.kind) b.children (length outer + 1) (8 * r.at) (8 * r.top.stop) (digits_of_bytes octets ++ later) e) → TellsFor r.set (b ∷ outer) front r.octets e
-    head_tells e f = record {
+    head_there : HasHead r.top.kind r.at r.top.stop octets
+        → (has_none (groups b) ≡ true) ⊎ ((8 * r.at + 8 ≤ 8 * length front) × ((8 * r.at + 32 ≤ 8 * length front) ⊎ ((b.stop < 8 * r.at + 32) ⊎ ((more : List ℕ) → length (front ++ more) ≡ r.octets → first_digit (drop (8 * r.at) (digits_of_bytes (front ++ more))) ≡ true))))
+    head_there x =
+        let lo : length octets ≡ length front - r.at = sym (ap (λ (x : List ℕ). length x) d) ∙ length-drop r.at front in
+        elim x [
+          | inl g ↦ inl (ap (λ (k : Kind). has_none (groups_of k)) rd.level.kind ∙ g)
+          | inr w ↦ inr (
+            omega (arith, w.0, lo, rd.before),
+            elim w.1 [
+              | inl four ↦ inl (omega (arith, four, lo, rd.before))
+              | inr y ↦ elim y [
+                | inl lt ↦ inr (inl (omega (arith, lt, rd.level.stop)))
+                | inr one ↦ inr (inr (λ more long_is. ap first_digit (here more) ∙ one (digits_of_bytes more)))
+              ]
+            ],
+          )
+        ]
+
+    pub head_tells : (e : FrameErr) → ((later : List Bool) → HeadFails (set_of_kind r.top.kind) (groups_of r.top.kind) b.children (length outer + 1) (8 * r.at) (8 * r.top.stop) (digits_of_bytes octets ++ later) e) → HasHead r.top.kind r.at r.top.stop octets → TellsFor r.set (b ∷ outer) front r.octets e
+    head_tells e f there = record {
       tree = b ∷ outer;
       is = inl refl;
       root = resting.reaches.root;
@@ -120,6 +138,7 @@ module _ (r : BodyReader) (front : List ℕ) (b : Begun) (outer : List Begun) (r
               | inr x ↦ tlv_tells_at ds b outer (8 * r.at) r.top.kind rd.level.kind resting.ready st not_over e x.0 x.1 x.2
             ]
           ];
+      decided = decided_for (b ∷ outer) front r.octets e (child_decided front r.octets b outer (8 * r.at) resting.reaches resting.ready not_over (head_there there));
     }
 
     room_of : length octets ≡ length front - r.at
@@ -170,6 +189,7 @@ module _ (r : BodyReader) (front : List ℕ) (b : Begun) (outer : List Begun) (r
           let ds : List Bool = digits_of_bytes (front ++ more) in
           let is : e ≡ Bad (record { bit = b.stop; reason = Missing }) = told ∙ ap (λ (n : ℕ). Bad (record { bit = n; reason = Missing })) (sym rd.level.stop) in
           subst (TellsAt ds (b ∷ outer)) (sym is) (tells_at ds b outer (8 * r.at) Close (Bad (record { bit = b.stop; reason = Missing })) (stands_now more long_is) (closing_turn b (8 * r.at) (drop (8 * r.at) ds) resting.ready over_is) (missing_first b (length (b ∷ outer)) (8 * r.at) (drop (8 * r.at) ds) few));
+      decided = decided_for (b ∷ outer) front r.octets e (decided front r.octets b outer (8 * r.at) resting.reaches (λ more long_is. (Close, closing_turn b (8 * r.at) (drop (8 * r.at) (digits_of_bytes (front ++ more))) resting.ready over_is, resting.reaches.within)));
     }
 
     pub closed_reaches : (p : Begun) (os : List Begun) → outer ≡ p ∷ os → is_enough (groups b) b.children ≡ true

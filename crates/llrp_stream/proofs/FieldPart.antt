@@ -20,9 +20,9 @@ use Rattle.llrp_stream.specs.Private.Front.{TellsFor}
 use Rattle.llrp_stream.specs.Calls.Received.{IsNextField}
 use Rattle.llrp_stream.specs.Calls.Reading.{HasReadTo, bit_of, IsAtStage, IsLeading}
 use Rattle.llrp_stream.proofs.Reached.{stands_in, reaches_in, seen}
-use Rattle.llrp_stream.specs.Calls.Front.{IsUndecided}
-use Rattle.llrp_stream.proofs.WaitLemmas.{field_waits}
-use Rattle.llrp_stream.proofs.FaultTrees.{field_tells_at}
+use Rattle.llrp_stream.specs.Calls.Front.{AreDeciding, IsUndecided}
+use Rattle.llrp_stream.proofs.WaitLemmas.{field_decided, field_waits}
+use Rattle.llrp_stream.proofs.FaultTrees.{decided_for, field_tells_at}
 
 pub short_fails : (r : FieldRule) (at stop : ℕ) (rest : List Bool) (e : FrameErr) → stop < at + r.width → e ≡ Bad (record { bit = at; reason = Short }) → FailsFirst (field_checks r at stop rest) e
 short_fails r at stop rest e lt told = subst (FailsFirst (field_checks r at stop rest)) (sym told) (rw (lt-leb (at + r.width) stop lt) refl)
@@ -41,8 +41,16 @@ module _ (r : BodyReader) (front : List ℕ) (b : Begun) (outer : List Begun) (o
   stands_leading : (more : List ℕ) → length (front ++ more) ≡ r.octets → IsAt (digits_of_bytes (front ++ more)) (leading b.head b.stop b.fields ∷ outer) (bit_of r)
   stands_leading more e = subst (λ (x : Begun). IsAt (digits_of_bytes (front ++ more)) (x ∷ outer) (bit_of r)) staged.bare (stands_in front more r.octets (b ∷ outer) (bit_of r) staged.reaches e)
 
-  pub field_all_tell : (e : FrameErr) → ((later : List Bool) → FailsFirst (field_checks rule (bit_of r) (8 * r.top.stop) (drop r.bit (digits_of_bytes octets ++ later))) e) → TellsFor r.set (b ∷ outer) front r.octets e
-  field_all_tell e f = record {
+  field_decides : (bit_of r + rule.width ≤ 8 * r.top.stop → r.bit + rule.width ≤ 8 * length octets) → AreDeciding (8 * length front) front r.octets (b ∷ outer)
+  field_decides fits =
+      let lo : length octets ≡ length front - r.at = sym (ap (λ (x : List ℕ). length x) d) ∙ length-drop r.at front in
+      let P : Begun → Type 0 = λ x. AreDeciding (8 * length front) front r.octets (x ∷ outer) in
+      let reach : Reaches r.set front r.octets (leading b.head b.stop b.fields ∷ outer) (bit_of r) = subst (λ (x : Begun). Reaches r.set front r.octets (x ∷ outer) (bit_of r)) staged.bare staged.reaches in
+      let nx2 : drop (length b.fields) (fields_of (kind_of_head b.head)) ≡ rule ∷ others = ap (λ (k : Kind). drop (length b.fields) (fields_of k)) rd.level.kind ∙ next_is in
+      subst P (sym staged.bare) (field_decided front r.octets b.head b.stop b.fields outer (bit_of r) rule others reach nx2 (λ room. let f = fits (omega (arith, room, rd.level.stop)) in omega (arith, f, lo, rd.before)))
+
+  pub field_all_tell : (e : FrameErr) → ((later : List Bool) → FailsFirst (field_checks rule (bit_of r) (8 * r.top.stop) (drop r.bit (digits_of_bytes octets ++ later))) e) → (bit_of r + rule.width ≤ 8 * r.top.stop → r.bit + rule.width ≤ 8 * length octets) → TellsFor r.set (b ∷ outer) front r.octets e
+  field_all_tell e f fits = record {
     tree = leading b.head b.stop b.fields ∷ outer;
     is = inl (ap (λ (x : Begun). x ∷ outer) staged.bare);
     root = staged.reaches.root;
@@ -51,6 +59,7 @@ module _ (r : BodyReader) (front : List ℕ) (b : Begun) (outer : List Begun) (o
         let there = seen front more octets r.at r.bit rd.before d in
         let g : FailsFirst (field_checks rule (bit_of r) b.stop (drop (bit_of r) ds)) e = subst (λ (x : List Bool). FailsFirst (field_checks rule (bit_of r) b.stop x) e) (sym there) (subst (λ (n : ℕ). FailsFirst (field_checks rule (bit_of r) n (drop r.bit (digits_of_bytes octets ++ digits_of_bytes more))) e) (sym rd.level.stop) (f (digits_of_bytes more))) in
         field_tells_at ds r.top.kind b.head b.stop b.fields outer (bit_of r) rule others e rd.level.kind next_is (stands_leading more long) g;
+    decided = decided_for (b ∷ outer) front r.octets e (field_decides fits);
   }
 
   pub field_undecided : bit_of r + rule.width ≤ 8 * r.top.stop → 8 * length octets < r.bit + rule.width → IsUndecided front r.octets (b ∷ outer)

@@ -1,10 +1,11 @@
 -- More octets of a frame.
-use Rattle.std.proofs.Common.{◌≡◌, ℕ, ◌+◌, ◌-◌, ◌*◌, ◌≤◌, ◌⊎◌, Bool, true, List, [], ◌∷◌, ◌++◌, length, take, drop, refl, sym, ap, subst, ◌∙◌, arith, append_assoc, length-append}
+use Rattle.std.proofs.Common.{◌≡◌, ℕ, ◌+◌, ◌-◌, ◌*◌, ◌≤◌, Bool, true, List, [], ◌∷◌, ◌++◌, length, take, drop, refl, sym, ap, subst, ◌∙◌, arith, append_assoc, length-append}
 use Rattle.std.specs.Prelude.{nat_le}
 use Rattle.std.proofs.lemmas.Bool.{leb-true}
 use Rattle.std.proofs.lemmas.List.{take-append-le, drop-append-le, drop-drop}
 use Rattle.tag_bits.specs.Digits.{digits_of_bytes}
 use Rattle.tag_bits.proofs.ByteLemmas.{length-bytes, bytes-append}
+use Rattle.llrp_tree.specs.declared.fault.Fault.{Fault}
 use Rattle.llrp_tree.specs.declared.fault.FrameErr.{FrameErr}
 use Rattle.llrp_schema.specs.declared.kinds.KindSet.{KindSet}
 use Rattle.llrp_tree.specs.Spelling.{Head, message, tlv, tv}
@@ -14,14 +15,15 @@ use Rattle.llrp_tree.specs.FirstFault.{tail_length, octets_at, has_ended}
 use Rattle.llrp_tree.specs.Calls.Standing.{leading, end_of}
 use Rattle.llrp_tree.specs.Private.Standing.{Tells}
 use Rattle.llrp_tree.specs.declared.fault.FrameErr.TheVariants.{Memory, Bad}
-use Rattle.llrp_stream.specs.Calls.Received.{IsFaultIn}
 use Rattle.llrp_stream.specs.declared.engine.body_reader.BodyReader.{BodyReader}
 use Rattle.llrp_stream.specs.declared.engine.body_reader.Stage.{Stage}
 use Rattle.llrp_stream.specs.declared.engine.body_reader.Stage.TheVariants.{Leading, Tail, Children}
 use Rattle.llrp_stream.specs.Calls.Front.{Reaches}
-use Rattle.llrp_stream.specs.Private.Front.{TellsAll, TellsFor, FailsWith}
-use Rattle.llrp_stream.proofs.FaultTrees.{tells_all, tells_for_more}
-use Rattle.llrp_stream.specs.Calls.Reading.{HasReadTo, Are, IsAtStage}
+use Rattle.llrp_stream.specs.Private.Front.{TellsAll, TellsFor, FailsHanded, FailsWith, MayFailWith}
+use Rattle.llrp_stream.proofs.FaultTrees.{tells_all}
+use Rattle.llrp_stream.proofs.PlaceLemmas.{ends_in}
+use Rattle.llrp_stream.proofs.RefusedLemmas.{handed_more}
+use Rattle.llrp_stream.specs.Calls.Reading.{HasReadTo, Are, IsAtStage, MayFailFor, Told}
 use Rattle.llrp_stream.specs.Private.Reading.{IsComplete}
 
 pub reaches_more : {p : KindSet} (front more : List ℕ) (n : ℕ) (t : List Begun) (at : ℕ) → length (front ++ more) ≤ n → Reaches p front n t at → Reaches p (front ++ more) n t at
@@ -74,16 +76,19 @@ tells_more p front more n e f = λ later long.
     let same = append_assoc front more later in
     subst (λ (x : List ℕ). Tells p (digits_of_bytes x) e) (sym same) (f (more ++ later) (sym (ap (λ (x : List ℕ). length x) same) ∙ long))
 
-pub fails_with : (p : KindSet) (begins stands : List Begun → Type 0) (front : List ℕ) (n : ℕ) (e : FrameErr) → {t : List Begun} → TellsFor p t front n e → (begins t) ⊎ (stands t) → FailsWith begins stands p front n e
-fails_with p begins stands front n Memory f r = tt
-fails_with p begins stands front n (Bad x) {t} f r = (tells_all p t front n (Bad x) f, (t, r, record { tree = f.tree; is = f.is; root = f.root; fails = f.tells }))
+may_fail : (s : Stage) (x : Fault) → MayFailWith s (Bad x) → MayFailFor s x.reason
+may_fail (Leading next) x m = m
+may_fail (Tail left) x m = m
+may_fail Children x m = m
 
-pub fails_more : (p : KindSet) (begins stands : List Begun → Type 0) (front more : List ℕ) (n : ℕ) (e : FrameErr) → FailsWith begins stands p front n e → FailsWith begins stands p (front ++ more) n e
-fails_more p begins stands front more n Memory f = tt
-fails_more p begins stands front more n (Bad x) f =
-    let r : IsFaultIn p front n f.1.0 x = f.1.2 in
-    let g : TellsFor p f.1.0 (front ++ more) n (Bad x) = tells_for_more p f.1.0 front more n (Bad x) (record { tree = r.tree; is = r.is; root = r.root; tells = r.fails }) in
-    (tells_more _ front more n (Bad x) f.0, (f.1.0, f.1.1, record { tree = g.tree; is = g.is; root = g.root; fails = g.tells }))
+pub fails_with : (begins stands : List Begun → Type 0) (r : BodyReader) (front : List ℕ) (b : Begun) (outer : List Begun) (e : FrameErr) → HasReadTo r front b outer → TellsFor r.set (b ∷ outer) front r.octets e → (s : Stage) → r.stage ≡ s → Told begins stands s (b ∷ outer) → MayFailWith s e → FailsWith begins stands r r.at r.set front r.octets e
+fails_with begins stands r front b outer Memory rd f s is t m = tt
+fails_with begins stands r front b outer (Bad x) rd f s is t m =
+    (tells_all r.set (b ∷ outer) front r.octets (Bad x) f, (b ∷ outer, subst (λ (x : Stage). Told begins stands x (b ∷ outer)) (sym is) t, record { tree = f.tree; is = f.is; root = f.root; fails = f.tells }, ends_in r front b outer rd, f.decided, rd, subst (λ (y : Stage). MayFailFor y x.reason) (sym is) (may_fail s x m)))
+
+pub fails_more : (p : KindSet) (stands : List Begun → Type 0) (faulty : List Begun → List ℕ → Fault → Type 0) (front more : List ℕ) (n : ℕ) (e : FrameErr) → FailsHanded stands faulty p front n e → FailsHanded stands faulty p (front ++ more) n e
+fails_more p stands faulty front more n Memory f = tt
+fails_more p stands faulty front more n (Bad x) f = (tells_more _ front more n (Bad x) f.0, f.1, handed_more faulty p front more n x f.2)
 
 -- octets after a place, with more
 pub behind_more : (front more octets : List ℕ) (at : ℕ) → at ≤ length front → drop at front ≡ octets → drop at (front ++ more) ≡ octets ++ more

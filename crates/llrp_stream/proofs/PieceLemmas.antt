@@ -4,10 +4,11 @@ use Rattle.std.proofs.Common.{◌≡◌, ℕ, ◌+◌, ◌<◌, ◌≤◌, inr, 
 use Rattle.std.proofs.lemmas.List.{append-nil}
 use Rattle.arrayvec.specs.ArrayVec.{ArrayVec}
 use Rattle.llrp_tree.specs.OpenTree.{Begun}
+use Rattle.llrp_tree.specs.declared.fault.Fault.{Fault}
 use Rattle.llrp_tree.specs.declared.fault.FrameErr.{FrameErr}
 use Rattle.llrp_stream.specs.declared.engine.body_reader.BodyReader.{BodyReader}
 use Rattle.llrp_stream.specs.declared.engine.body.Body.{Body}
-use Rattle.llrp_stream.specs.Private.Front.{FailsWith}
+use Rattle.llrp_stream.specs.Private.Front.{FailsHanded}
 use Rattle.llrp_stream.specs.Calls.Reading.{Are}
 use Rattle.llrp_stream.specs.Private.Reading.{IsComplete}
 use Rattle.llrp_stream.specs.Calls.Pieces.{BodyStands, Awaits, IsShort}
@@ -65,9 +66,9 @@ module _ (front piece done chunk others : List ℕ) (parts : piece ≡ (done ++ 
       let none : others ≡ [] = none_behind stands r (front ++ done) chunk others w (let a = ap (λ (x : List ℕ). length x) joined in let b = ap (λ (x : List ℕ). length x) (append_assoc (front ++ done) chunk others) in omega arith) in
       subst (λ (x : List ℕ). IsComplete stands r x) (sym (append-nil ((front ++ done) ++ chunk)) ∙ ap (λ (x : List ℕ). ((front ++ done) ++ chunk) ++ x) (sym none) ∙ joined) w
 
-  pub chunk_tells : (begins stands : List Begun → Type 0) (p q : KindSet) (n m : ℕ) (e : FrameErr) → p ≡ q → n ≡ m → FailsWith begins stands p ((front ++ done) ++ chunk) n e → FailsWith begins stands q (front ++ piece) m e
-  chunk_tells begins stands p q n m e set same f =
-      subst (λ (x : KindSet). FailsWith begins stands x (front ++ piece) m e) set (subst (λ (k : ℕ). FailsWith begins stands p (front ++ piece) k e) same (subst (λ (x : List ℕ). FailsWith begins stands p x n e) joined (fails_more _ begins stands ((front ++ done) ++ chunk) others n e f)))
+  pub chunk_tells : (stands : List Begun → Type 0) (faulty : List Begun → List ℕ → Fault → Type 0) (p q : KindSet) (n m : ℕ) (e : FrameErr) → p ≡ q → n ≡ m → FailsHanded stands faulty p ((front ++ done) ++ chunk) n e → FailsHanded stands faulty q (front ++ piece) m e
+  chunk_tells stands faulty p q n m e set same f =
+      subst (λ (x : KindSet). FailsHanded stands faulty x (front ++ piece) m e) set (subst (λ (k : ℕ). FailsHanded stands faulty p (front ++ piece) k e) same (subst (λ (x : List ℕ). FailsHanded stands faulty p x n e) joined (fails_more _ stands faulty ((front ++ done) ++ chunk) others n e f)))
 
 pub head_split : (rest : List ℕ) → 1 ≤ length rest → rest ≡ get_or (take 1 rest) 0 0 ∷ drop 1 rest
 head_split [] le = absurd (omega arith)

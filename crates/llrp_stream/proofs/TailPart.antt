@@ -17,7 +17,7 @@ use Rattle.llrp_schema.specs.declared.kinds.Tail.TheVariants.{Absent, Words, Tex
 use Rattle.llrp_schema.specs.Schema.{FieldRule, any_field, bits_of, fields_of, tail_of}
 use Rattle.llrp_schema.proofs.TableLaws.{whole_octets, message_form, bits_field}
 use Rattle.llrp_tree.specs.declared.fault.FrameErr.{FrameErr}
-use Rattle.llrp_tree.specs.declared.fault.FrameErr.TheVariants.{Bad}
+use Rattle.llrp_tree.specs.declared.fault.FrameErr.TheVariants.{Memory, Bad}
 use Rattle.llrp_tree.specs.declared.fault.Reason.TheVariants.{Utf8}
 use Rattle.llrp_tree.specs.Tree.{none}
 use Rattle.llrp_tree.specs.Lawful.{AreOctets, count_octets, first}
@@ -34,15 +34,15 @@ use Rattle.llrp_tree.proofs.Growing.{grow_tail}
 use Rattle.llrp_stream.specs.declared.engine.body_reader.BodyReader.{BodyReader}
 use Rattle.llrp_stream.specs.declared.engine.body_reader.Stage.{Stage}
 use Rattle.llrp_stream.specs.declared.engine.body_reader.Stage.TheVariants as stage
-use Rattle.llrp_stream.specs.Calls.Front.{Reaches, IsUndecided}
-use Rattle.llrp_stream.specs.Private.Front.{TellsAt, TellsFor}
+use Rattle.llrp_stream.specs.Calls.Front.{AreDeciding, Reaches, IsUndecided}
+use Rattle.llrp_stream.specs.Private.Front.{IsDecidedFor, TellsAt, TellsFor}
 use Rattle.llrp_stream.specs.Calls.Received.{AreWhole, IsBeforeTail, IsInTail}
 use Rattle.llrp_stream.specs.Private.Tails.{HasWhole}
 use Rattle.llrp_stream.specs.Calls.Reading.{HasReadTo, bit_of, settled, IsAtStage, IsLeading, IsTailing}
 use Rattle.llrp_stream.specs.Private.Reading.{rank, work}
 use Rattle.llrp_stream.proofs.Reached.{stands_in, reaches_in}
 use Rattle.llrp_stream.proofs.Bounds.{covered_length}
-use Rattle.llrp_stream.proofs.WaitLemmas.{count_waits, tail_waits}
+use Rattle.llrp_stream.proofs.WaitLemmas.{count_decided, count_waits, tail_waits}
 use Rattle.llrp_stream.proofs.TextLemmas.{take_take, valid_is_text, valid_is, not_text}
 use Rattle.llrp_stream.proofs.FaultTrees.{tells_at}
 use Rattle.llrp_tree.proofs.Undecided.{header_covered as after_header}
@@ -243,18 +243,34 @@ module _ (r : BodyReader) (front : List ℕ) (b : Begun) (outer : List Begun) (s
   pub is_before_tail : IsBeforeTail (b ∷ outer) shape
   is_before_tail = record { node = b; outer = outer; tree_is = refl; form_is = shape_is; all_fields = all_there; untailed = ap (λ (x : Begun). x.tail) led.bare }
 
-  pub count_tells : (octets : List ℕ) (e : FrameErr) → drop r.at front ≡ octets → ((later : List Bool) → FailsFirst (tail_checks shape (plain_values (rules b) b.fields) (8 * r.at) (8 * r.top.stop) (digits_of_bytes octets ++ later)) e) → TellsFor r.set (b ∷ outer) front r.octets e
-  count_tells octets e d g = record {
+  count_fails : (octets : List ℕ) (e : FrameErr) → drop r.at front ≡ octets → ((later : List Bool) → FailsFirst (tail_checks shape (plain_values (rules b) b.fields) (8 * r.at) (8 * r.top.stop) (digits_of_bytes octets ++ later)) e) → (more : List ℕ)
+      → FailsFirst (tail_checks (form b) (plain_values (rules b) b.fields) (8 * r.at) b.stop (drop (8 * r.at) (digits_of_bytes (front ++ more)))) e
+  count_fails octets e d g more =
+      let x : List Bool = digits_of_bytes octets ++ digits_of_bytes more in
+      let plain : List ℕ = plain_values (rules b) b.fields in
+      subst (λ (y : List Bool). FailsFirst (tail_checks (form b) plain (8 * r.at) b.stop y) e) (sym (behind front more octets r.at rd.before d))
+      (subst (λ (n : ℕ). FailsFirst (tail_checks (form b) plain (8 * r.at) n x) e) (sym rd.level.stop)
+      (subst (λ (t : Tail). FailsFirst (tail_checks t plain (8 * r.at) (8 * r.top.stop) x) e) (sym shape_is) (g (digits_of_bytes more))))
+
+  count_decides : (octets : List ℕ) (e : FrameErr) → drop r.at front ≡ octets → ((later : List Bool) → FailsFirst (tail_checks shape (plain_values (rules b) b.fields) (8 * r.at) (8 * r.top.stop) (digits_of_bytes octets ++ later)) e) → (shape ≢ Bits → r.at + 2 ≤ r.top.stop → 2 ≤ length octets)
+      → IsDecidedFor (b ∷ outer) front r.octets e
+  count_decides octets Memory d g two = tt
+  count_decides octets (Bad x) d g two =
+      let lo : length octets ≡ length front - r.at = sym (ap (λ (x : List ℕ). length x) d) ∙ length-drop r.at front in
+      let P : Begun → Type 0 = λ y. (x.reason ≡ Utf8) ⊎ AreDeciding (8 * length front) front r.octets (y ∷ outer) in
+      subst P (sym led.bare)
+      (count_decided front r.octets b.head b.stop b.fields outer (8 * r.at) bare_reaches none_left has_one x.bit x.reason (λ more long. count_fails octets (Bad x) d g more) (λ ne room.
+      let t = two (λ z. ne (shape_is ∙ z)) (omega (arith, room, rd.level.stop)) in
+      omega (arith, t, lo, rd.before)))
+
+  pub count_tells : (octets : List ℕ) (e : FrameErr) → drop r.at front ≡ octets → ((later : List Bool) → FailsFirst (tail_checks shape (plain_values (rules b) b.fields) (8 * r.at) (8 * r.top.stop) (digits_of_bytes octets ++ later)) e) → (shape ≢ Bits → r.at + 2 ≤ r.top.stop → 2 ≤ length octets)
+      → TellsFor r.set (b ∷ outer) front r.octets e
+  count_tells octets e d g two = record {
     tree = leading b.head b.stop b.fields ∷ outer;
     is = inl (ap (λ (x : Begun). x ∷ outer) led.bare);
     root = bare_reaches.root;
-    tells =
-        all_tell front r.octets b.head b.stop b.fields outer (8 * r.at) e bare_reaches none_left has_one (λ more long.
-        let x : List Bool = digits_of_bytes octets ++ digits_of_bytes more in
-        let plain : List ℕ = plain_values (rules b) b.fields in
-        subst (λ (y : List Bool). FailsFirst (tail_checks (form b) plain (8 * r.at) b.stop y) e) (sym (behind front more octets r.at rd.before d))
-        (subst (λ (n : ℕ). FailsFirst (tail_checks (form b) plain (8 * r.at) n x) e) (sym rd.level.stop)
-        (subst (λ (t : Tail). FailsFirst (tail_checks t plain (8 * r.at) (8 * r.top.stop) x) e) (sym shape_is) (g (digits_of_bytes more)))));
+    tells = all_tell front r.octets b.head b.stop b.fields outer (8 * r.at) e bare_reaches none_left has_one (λ more long. count_fails octets e d g more);
+    decided = count_decides octets e d g two;
   }
 
   pub count_undecided : (octets : List ℕ) → drop r.at front ≡ octets → shape ≢ Bits → shape ≢ Data → 8 * r.at + 16 ≤ 8 * r.top.stop → length octets < 2 → IsUndecided front r.octets (settled r.stage b ∷ outer)
@@ -383,6 +399,7 @@ module _ (left : ℕ) (r : BodyReader) (front : List ℕ) (b : Begun) (outer : L
         tree = leading b.head b.stop b.fields ∷ outer;
         is = inr (refl, refl);
         root = t.reaches.root;
+        decided = inl refl;
         tells = all_tell front r.octets b.head b.stop b.fields outer (8 * t.from) (Bad (record { bit = 8 * r.at; reason = Utf8 })) t.reaches none_more t.has (λ more long.
             let ds : List Bool = digits_of_bytes (front ++ more) in
             let rest : List Bool = drop (8 * t.from) ds in

@@ -1,4 +1,5 @@
 -- A message of which all is read has its frame.
+use Rattle.std.specs.Prelude.{nat_le}
 use Rattle.std.proofs.Common.{◌≡◌, ℕ, ◌*◌, ◌≤◌, List, [], ◌∷◌, ◌++◌, Bool, true, length, Option, unwrap_or, refl, sym, ap, subst, ◌∙◌, arith}
 use Rattle.std.proofs.lemmas.List.{append-nil}
 use Rattle.tag_bits.specs.Digits.{digits_of_bytes}
@@ -19,7 +20,7 @@ use Rattle.llrp_tree.specs.declared.header.Header.{Header}
 use Rattle.llrp_stream.proofs.ReadyPart.{resting}
 use Rattle.tag_bits.proofs.ByteLemmas.{length-bytes, bytes-append}
 use Rattle.llrp_schema.specs.declared.kinds.MsgKind.{MsgKind}
-use Rattle.llrp_tree.specs.FirstFault.{number, header_checks_in}
+use Rattle.llrp_tree.specs.FirstFault.{number, has_ended, header_checks_in}
 use Rattle.llrp_schema.proofs.TableLaws.{message_found_in}
 use Rattle.llrp_schema.specs.declared.kinds.KindSet.{KindSet}
 use Rattle.llrp_tree.specs.Calls.Standing.{leading, HeaderSaysIn}
@@ -32,6 +33,7 @@ use Rattle.llrp_stream.specs.declared.engine.body_reader.BodyReader.{BodyReader}
 use Rattle.llrp_stream.specs.Calls.Received.{IsReady, IsMessageOf}
 use Rattle.llrp_stream.specs.Private.Reading.{IsComplete}
 use Rattle.llrp_stream.proofs.Reached.{stands_in}
+use Rattle.llrp_stream.proofs.Bounds.{covered_length}
 use Rattle.llrp_stream.proofs.MoreOctets.{whole_ends, head_alone, end_alone}
 
 closed_by : {p : KindSet} (h : Head) (stop : ℕ) (vs : List ℕ) (tail : Option (List ℕ)) (cs : Forest) (front : List ℕ) (limit at : ℕ) → IsHead h stop [] → root_of h [] ≡ p → stop ≡ 8 * length front → Closes (digits_of_bytes front) (begin_node h stop vs tail cs) [] at → AreOctets front → length front ≤ limit → limit ≤ MAX_LIMIT
@@ -55,7 +57,14 @@ frame_of stands r front limit w o le most =
     (record { stands = st2; ready = w.ready; over = w.over; enough = w.enough }) o (omega (arith, e, le)) most
 
 pub ready_of : (stands : List Begun → Type 0) (r : BodyReader) (front : List ℕ) (w : IsComplete stands r front) → IsReady (w.node ∷ [])
-ready_of stands r front w = record { node = w.node; outer = []; tree_is = refl; ready = w.ready; is_open = w.reaches.is_open }
+ready_of stands r front w = record {
+  node = w.node;
+  outer = [];
+  tree_is = refl;
+  ready = w.ready;
+  is_open = w.reaches.is_open;
+  ended = subst (λ (n : ℕ). has_ended w.node.head (nat_le w.node.stop n) ≡ true) (sym (covered_length front r.octets (w.node ∷ []) (8 * r.at) w.reaches)) w.over;
+}
 
 -- ---- a header
 

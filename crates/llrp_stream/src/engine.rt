@@ -12,6 +12,8 @@ mod stack;
 mod tail;
 mod tv_values;
 
+pub use body_reader::Stage;
 pub(crate) use builder::Builder;
 pub use frames::{Came, Frames, Outcome};
-pub use listener::Listener;
+pub use listener::{Listener, Stopped};
+pub use stack::StackNode;

@@ -1,5 +1,5 @@
 -- Numbers of octets, one after the other.
-use Rattle.std.proofs.Common.{◌≡◌, ℕ, zero, suc, ◌+◌, ◌-◌, ◌*◌, ◌^◌, ◌<◌, ◌≤◌, Bool, List, [], ◌∷◌, ◌++◌, length, take, drop, get_or, ap, ◌∙◌, arith, append_assoc, length-append, length-drop}
+use Rattle.std.proofs.Common.{◌≡◌, ℕ, zero, suc, ◌+◌, ◌-◌, ◌*◌, ◌/◌, ◌%◌, ◌^◌, ◌<◌, ◌≤◌, Bool, List, [], ◌∷◌, ◌++◌, length, take, drop, get_or, ap, ◌∙◌, arith, append_assoc, length-append, length-drop}
 use Rattle.std.proofs.lemmas.List.{length-take-le, drop-drop}
 use Rattle.std.proofs.Math.Seq.{take-add}
 use Rattle.tag_bits.specs.Digits.{value, digits, digits_of_bytes}
@@ -7,7 +7,7 @@ use Rattle.tag_bits.proofs.DigitLemmas.{value-append}
 use Rattle.tag_bits.proofs.ByteLemmas.{bytes-cons, length-bytes}
 use Rattle.llrp_tree.specs.Lawful.{AreOctets}
 use Rattle.llrp_tree.specs.FirstFault.{number}
-use Rattle.llrp_tree.proofs.ReadDigits.{number_own, number_behind}
+use Rattle.llrp_tree.proofs.ReadDigits.{number_own, number_behind, value_at}
 
 -- two runs of digits, one after the other, are one number
 pub number_joined : (ds : List Bool) (at a b : ℕ) → at + (a + b) ≤ length ds → number ds at (a + b) ≡ number ds at a * 2 ^ b + number ds (at + a) b
@@ -65,3 +65,12 @@ four_at octets later i are le =
     let lower = word_at octets later (i + 2) are (omega (arith, le)) in
     let last : get_or octets (i + 2 + 1) 0 ≡ get_or octets (i + 3) 0 = ap (λ (k : ℕ). get_or octets k 0) (omega arith) in
     omega (arith, both, upper, lower, last)
+
+-- sixteen digits, in three parts
+pub in_three : (ds : List Bool) (front : ℕ) → 16 ≤ length ds → front ≡ number ds 0 16 → (front / 8192 ≡ number ds 0 3) × (front / 1024 % 8 ≡ number ds 3 3) × (front % 1024 ≡ number ds 6 10)
+in_three ds front le is =
+    let a = number_joined ds 0 3 13 (omega (arith, le)) in
+    let b = number_joined ds 3 3 10 (omega (arith, le)) in
+    let second = value_at 3 3 ds (omega (arith, le)) in
+    let third = value_at 6 10 ds (omega (arith, le)) in
+    (omega (arith, is, a, b, second, third), omega (arith, is, a, b, second, third), omega (arith, is, a, b, second, third))

@@ -5,7 +5,7 @@ ghost use Rattle.llrp_tree.specs.Calls.Header.{HasHeader, HasHeaderFault, HasHea
 
 use crate::child_checks::is_known_version;
 use crate::fault::fault_at;
-use crate::numbers::{from_bit, from_octet};
+use crate::numbers::{from_octet, header_front};
 use crate::{Fault, HEADER_OCTETS, MsgKind, Reason};
 use llrp_schema::{KindSet, msg_of_in};
 
@@ -41,16 +41,14 @@ pub fn read_header_in(set: KindSet, bytes: &[u8], limit: u32) -> Result<Header, 
     ensures header { IfOk result (HasHeaderIn set limit bytes.now) }
     ensures fault { IfErr result (HasHeaderFaultIn set limit bytes.now) }
 {
-    let reserved = from_bit(bytes, 0, 3);
+    let (reserved, version, number) = header_front(bytes);
     if reserved != 0 {
         return Err(fault_at(0, Reason::Reserved));
     }
-    let version = from_bit(bytes, 3, 3) as u8;
     let known = is_known_version(version);
     if !known {
         return Err(fault_at(3, Reason::Version));
     }
-    let number = from_bit(bytes, 6, 10) as u16;
     let Some(kind) = msg_of_in(set, number) else {
         return Err(fault_at(6, Reason::MessageType));
     };

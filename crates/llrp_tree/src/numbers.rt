@@ -106,3 +106,18 @@ pub fn from_octet(octets: &[u8], at: u32, width: u32) -> u128
         _ => ahead(octets, 8 * place, width),
     }
 }
+
+/// The numbers of the first three bits of the octets, of the three after them, and of the ten after those: the front of a header.
+#[inline(always)]
+pub(crate) fn header_front(octets: &[u8]) -> (u16, u8, u16)
+    requires { 2 ≤ length octets.now }
+    ensures first { (later : List Bool)
+        → result.0 ≡ number (digits_of_bytes octets.now ++ later) 0 3 }
+    ensures second { (later : List Bool)
+        → result.1 ≡ number (digits_of_bytes octets.now ++ later) 3 3 }
+    ensures third { (later : List Bool)
+        → result.2 ≡ number (digits_of_bytes octets.now ++ later) 6 10 }
+{
+    let front = word(octets, 0);
+    (front / 8192, (front / 1024 % 8) as u8, front % 1024)
+}

@@ -6,14 +6,14 @@ use crate::item_printer::ItemPrinter;
 use crate::printing::tails::{push_octets, push_tail};
 use crate::printing::text::Text;
 use llrp_schema::{Field, Kind, MsgKind, ParamKind, Tail};
-use llrp_stream::{End, Listener};
+use llrp_stream::{End, Listener, Stopped};
 use llrp_tree::Fault;
 use std::alloc::{AllocError, Global};
 
 /// Appends the lines of what it receives to a text, and cuts off those of a message that is given
 /// up.
 #[derive(Drop)]
-pub(crate) struct Printer {
+pub struct Printer {
     text: Text,
     /// Where the text of the unfinished message begins.
     mark: usize,
@@ -21,7 +21,7 @@ pub(crate) struct Printer {
 
 impl Printer {
     /// A printer that has received nothing; it takes no memory.
-    pub(crate) fn new(alloc: Global) -> Printer
+    pub fn new(alloc: Global) -> Printer
         ensures text { result.text ≡ [] }
         ensures mark { result.mark ≡ 0 }
     {
@@ -43,6 +43,8 @@ impl Listener for Printer {
     ghost stands = { λ self was t. IsMarked self.mark self.text was (Opened t) };
 
     ghost ends = { λ self was m now. AppendsLines (message_lines m) was now };
+
+    ghost faulty = { λ self was t octets fault. Unit {0} };
 
     #[inline(always)]
     fn message(
@@ -95,6 +97,10 @@ impl Listener for Printer {
     fn end(&mut self) -> Result<(), AllocError> {
         self.mark = self.text.len();
         Ok(())
+    }
+
+    fn fault(&mut self, _fault: Fault, _stopped: Option<Stopped>, _octets: &[u8]) {
+        self.give_up();
     }
 
     fn give_up(&mut self) {

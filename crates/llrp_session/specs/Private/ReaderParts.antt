@@ -5,20 +5,22 @@ use Rattle.llrp_tree.specs.Tree.{Tree}
 use Rattle.llrp_session.specs.RoSpec.{RoSpec}
 use Rattle.llrp_session.specs.Table.{Entry, RoState, is_disabled, names, enabling, disabling, setting, active, first_immediate}
 use Rattle.llrp_session.specs.Calls.LawfulWords.{AreReports, FitsLimit}
+use Rattle.llrp_session.specs.Calls.NextClient.{resting}
 use Rattle.llrp_session.specs.Contents.{ReaderMessage, Ended}
 use Rattle.llrp_session.specs.ReaderMachine.{Reader, Turn, most_held, following, sends_at_end, turn_begun, end}
 use Rattle.llrp_session.specs.ReaderMessages.{reader_message}
 use Rattle.llrp_session.specs.declared.reader.table.StateChange.{StateChange}
-use Rattle.llrp_session.specs.declared.reader.table.StateChange.TheVariants.{Enable, Disable, Set}
+use Rattle.llrp_session.specs.declared.reader.table.StateChange.TheVariants.{Enable, Disable, Set, Rest}
 use Rattle.llrp_session.specs.declared.reader.end_rospec.Ending.{Ending}
 use Rattle.llrp_session.specs.declared.parse.parsed.Request.{Request}
 use Rattle.llrp_session.specs.declared.parse.parsed.Request.TheVariants.{AddRoSpec}
 
 -- ---- the fields of a reader
 
--- the version is one of LLRP's, the ROSpecs fit one message, which is no longer than any may be, and the reports are few and short
+-- the version is one of LLRP's, the ROSpecs fit one message, which may be long enough and is no longer than any may be, and the reports are few and short
 pub record IsKept (v most : ℕ) (table : List Entry) (held : List Tree) : Type 0 where
   pub version : (v ≡ 1) ⊎ (v ≡ 2)
+  pub least : 4096 ≤ most
   pub limit : most ≤ MAX_LIMIT
   pub octets : FitsLimit most table
   pub reports : AreReports held
@@ -31,6 +33,7 @@ abbrev pub changing : StateChange → ℕ → RoState → RoState
 changing (Enable n) = enabling n
 changing (Disable n) = disabling n
 changing (Set id state) = setting id state
+changing Rest = resting
 
 -- a ROSpec is among those named that are Disabled and start by themselves
 abbrev pub is_immediate : ℕ → Entry → Bool

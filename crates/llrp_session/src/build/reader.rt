@@ -10,8 +10,10 @@ ghost use Rattle.llrp_session.specs.Table.{listing};
 ghost use Rattle.llrp_session.specs.Contents.{Response, Listed, Error, Report, KeepaliveSent, Accepted, Started, Ended, Overflowed};
 ghost use Rattle.llrp_session.specs.ReaderMessages.{response_kind as the_response_kind, notification_data, reader_message};
 ghost use Rattle.llrp_session.specs.Calls.LawfulWords.{AreReports, AreToldOf, FitsLimit};
+ghost use Rattle.llrp_session.specs.Calls.SideEvents.{notification as side_notification};
 
 use super::{leaf, message, only, pair, parameter};
+use crate::reader::side_events::SideEvent;
 use crate::reader::table::Entry;
 use crate::types::Operation;
 use llrp_tree::{Message, MsgKind, Node, ParamKind};
@@ -209,4 +211,39 @@ pub(crate) fn overflowed(
 {
     let event = leaf(alloc, ParamKind::ReportBufferOverflowErrorEvent, &[]);
     notification(alloc, version, id, now, event)
+}
+
+/// The event of an antenna, an input or another client.
+pub(crate) fn side_event(
+    alloc: Global,
+    version: u8,
+    id: u32,
+    now: u64,
+    event: SideEvent,
+) -> Result<Message, AllocError>
+    requires { (version ≡ 1) ⊎ (version ≡ 2) }
+    ensures { IfOk result (λ m. m ≡ side_notification version id now event) }
+{
+    match event {
+        SideEvent::AntennaOff { number } => {
+            let event = leaf(alloc, ParamKind::AntennaEvent, &[0, number as u128]);
+            notification(alloc, version, id, now, event)
+        }
+        SideEvent::AntennaOn { number } => {
+            let event = leaf(alloc, ParamKind::AntennaEvent, &[1, number as u128]);
+            notification(alloc, version, id, now, event)
+        }
+        SideEvent::InputLow { port } => {
+            let event = leaf(alloc, ParamKind::GpiEvent, &[port as u128, 0]);
+            notification(alloc, version, id, now, event)
+        }
+        SideEvent::InputHigh { port } => {
+            let event = leaf(alloc, ParamKind::GpiEvent, &[port as u128, 1]);
+            notification(alloc, version, id, now, event)
+        }
+        SideEvent::OtherClient => {
+            let event = leaf(alloc, ParamKind::ConnectionAttemptEvent, &[4]);
+            notification(alloc, version, id, now, event)
+        }
+    }
 }

@@ -4,6 +4,7 @@ ghost use Rattle.std.specs.Prelude.{◌≡◌, ◌<◌, ◌^◌, Option, None, S
 ghost use Rattle.std.specs.Option.{option_copied, option_map};
 ghost use Rattle.llrp_session.specs.ReaderMachine.{is_known as the_is_known};
 ghost use Rattle.llrp_session.specs.Private.ReaderParts.{changing, is_immediate as the_is_immediate, place_of as the_place};
+ghost use Rattle.llrp_session.specs.Calls.NextClient.{rested as the_rested};
 ghost use Rattle.llrp_session.specs.Table.{names as the_names, enabled as the_enabled, state_of as the_state_of, active as the_active, first_immediate as the_first_immediate, octets_of as the_octets, change as the_change, without as the_without, enter as the_enter};
 
 use crate::parse::stored_rospec::RoSpec;
@@ -27,6 +28,8 @@ pub(crate) enum StateChange {
     Disable(u32),
     /// The ROSpec with this id gets a state.
     Set(u32, RoState),
+    /// The Active ones become Inactive.
+    Rest,
 }
 
 /// Whether `n` in a request means the ROSpec with this id: 0 means all.
@@ -46,6 +49,16 @@ fn enabled(state: RoState) -> RoState
     }
 }
 
+/// The state after the client has left.
+fn rested(state: RoState) -> RoState
+    ensures { result ≡ the_rested state }
+{
+    match state {
+        RoState::Active => RoState::Inactive,
+        other => other,
+    }
+}
+
 /// The state of a ROSpec after a change.
 fn changed(change: StateChange, id: u32, state: RoState) -> RoState
     ensures { result ≡ changing change id state }
@@ -58,6 +71,7 @@ fn changed(change: StateChange, id: u32, state: RoState) -> RoState
             state
         },
         StateChange::Set(n, to) => if n == id { to } else { state },
+        StateChange::Rest => rested(state),
     }
 }
 

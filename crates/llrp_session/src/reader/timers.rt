@@ -1,6 +1,6 @@
 //! What a reader does as time passes.
 
-ghost use Rattle.std.specs.Prelude.{◌≡◌, ℕ, ◌<◌, ◌≤◌, ◌+◌, OnOk, OnErr, List, vec_len, vec_capacity};
+ghost use Rattle.std.specs.Prelude.{◌≡◌, ℕ, ◌<◌, ◌≤◌, ◌+◌, OnOk, OnErr, List, Some, vec_len, vec_capacity};
 ghost use Rattle.std.specs.Option.{option_copied};
 ghost use Rattle.llrp_tree.specs.Tree.{MessageTree};
 ghost use Rattle.llrp_session.specs.RoSpec.{RoSpec as TheRoSpec};
@@ -8,6 +8,7 @@ ghost use Rattle.llrp_session.specs.Table.{active as the_active};
 ghost use Rattle.llrp_session.specs.Private.Settings.{settings_of};
 ghost use Rattle.llrp_session.specs.ReaderMachine.{Turn, turn_begun, later as the_moment, keepalive_from as the_keepalive, has_run_out as the_test, keep_alive as the_keeping, tick as the_tick};
 ghost use Rattle.llrp_session.specs.Private.ReaderParts.{chosen};
+ghost use Rattle.llrp_session.specs.Calls.Due.{ends_at, keeps_alive_at, next_due as the_next_due, sooner as the_sooner};
 ghost use Rattle.llrp_session.specs.Calls.ReaderSteps.{Stands};
 
 use super::{Reader, table};
@@ -35,7 +36,58 @@ pub(crate) fn keepalive_from(now: u64, period: u32) -> Keepalive
     }
 }
 
+/// The sooner of two moments, if there are any.
+pub fn sooner(one: Option<u64>, other: Option<u64>) -> Option<u64>
+    ensures { result ≡ the_sooner one other }
+{
+    match (one, other) {
+        (Some(one), Some(other)) => Some(one.min(other)),
+        (Some(one), None) => Some(one),
+        (None, other) => other,
+    }
+}
+
+/// When a ROSpec that started at a moment ends by its duration, if it does.
+fn end_of(started: u64, settings: &Settings) -> Option<u64>
+    ensures { (s : TheRoSpec) → settings.now ≡ settings_of s
+        → result ≡ ends_at started (Some s) }
+{
+    if settings.stop_trigger == 1 {
+        Some(later(started, settings.duration))
+    } else {
+        None
+    }
+}
+
+/// When the next KEEPALIVE is sent.
+fn moment_of(keepalive: Option<Keepalive>) -> Option<u64>
+    ensures { result ≡ keeps_alive_at keepalive }
+{
+    match keepalive {
+        Some(keepalive) => Some(keepalive.due),
+        None => None,
+    }
+}
+
 impl Reader {
+    /// When the active ROSpec ends by its duration, if it does.
+    fn end_moment(&self) -> Option<u64>
+        ensures { result ≡ ends_at self.now.started (the_active self.now.table) }
+    {
+        match table::active(self.table()) {
+            Some(rospec) => end_of(self.started, rospec.settings()),
+            None => None,
+        }
+    }
+
+    /// When it next does something by itself, in microseconds: it sends a KEEPALIVE, or its active
+    /// ROSpec ends. Before that time changes nothing ([`crate::laws::nothing_happens_before_it_is_due`]).
+    pub fn next_due(&self) -> Option<u64>
+        ensures { result ≡ the_next_due self.now }
+    {
+        sooner(self.end_moment(), moment_of(self.keepalive))
+    }
+
     /// Whether the active ROSpec has run for as long as its stop trigger says.
     fn is_over(&self, now: u64, settings: &Settings) -> bool
         ensures { (s : TheRoSpec) → settings.now ≡ settings_of s

@@ -3,6 +3,7 @@ use Rattle.std.specs.Prelude.{◌≡◌, ℕ, ◌+◌, ◌*◌, ◌<◌, ◌≤�
 use Rattle.llrp_schema.specs.declared.kinds.KindSet.{KindSet}
 use Rattle.llrp_tree.specs.Tree.{MessageTree}
 use Rattle.llrp_tree.specs.Lawful.{AreOctets}
+use Rattle.llrp_tree.specs.declared.fault.Fault.{Fault}
 use Rattle.llrp_tree.specs.FirstFault.{FirstFaultIn}
 use Rattle.llrp_tree.specs.OpenTree.{Begun}
 use Rattle.llrp_stream.specs.declared.item.FeedErr.{FeedErr}
@@ -18,6 +19,7 @@ use Rattle.llrp_stream.specs.Cuts.{length_field, IsFrame, IsPartial, Breaks}
 use Rattle.llrp_stream.specs.Items.{FrameIn, id_field}
 use Rattle.llrp_stream.specs.Calls.Items.{header_fault_in, IsSkipped}
 use Rattle.llrp_stream.specs.Calls.Pieces.{Awaits}
+use Rattle.llrp_stream.specs.Calls.Received.{IsRefusedIn}
 
 -- The front is of a frame whose header passes its checks and has this id, and the frame's length is known.
 pub record IsPassed (limit id : ℕ) (body : Body) (front : List ℕ) : Type 0 where
@@ -117,3 +119,29 @@ Stops frames failure.Dead = (frames.state ≡ Dead) × (frames.body.raw.items �
 -- whatever front came, and whatever a listener holds of earlier messages, this is what a feed of the piece does; the first two relations are of what it received before
 abbrev pub GoesFrom : (begins0 stands0 begins stands : List ℕ → List Begun → Type 0) (ends : List ℕ → MessageTree → List ℕ → Type 0) → (old new : Frames) → List ℕ → Result Came FeedErr → Type 0
 GoesFrom begins0 stands0 begins stands ends old new piece result = (was front : List ℕ) → ComesTo (begins0 was) (stands0 was) old front → Goes (begins was) (stands was) (ends was) (λ now. stands now []) old new front piece result
+
+-- ---- a fault that was handed on
+
+-- of a faulty frame that begins so, a listener received an open tree, and was handed the fault with the octets after that tree
+abbrev pub IsRefused : (faulty : List Begun → List ℕ → Fault → Type 0) → KindSet → ℕ → List ℕ → Fault → Type 0
+IsRefused faulty p limit front fault = (t : List Begun) × (handed : List ℕ) × faulty t handed fault × IsRefusedIn p limit front (length_field front) t handed fault
+
+-- so it is with a frame that is skipped
+abbrev pub IsRefusedAt : (faulty : List Begun → List ℕ → Fault → Type 0) → KindSet → ℕ → State → List ℕ → Type 0
+IsRefusedAt faulty p limit (Skipping count header) front = IsRefused faulty p limit front header.fault
+IsRefusedAt faulty p limit _ front = Unit {0}
+
+-- and with one that a feed ends
+abbrev pub EndsRefused : (faulty : List Begun → List ℕ → Fault → Type 0) → KindSet → ℕ → (front piece : List ℕ) → State → (used : ℕ) → Option Outcome → Type 0
+EndsRefused faulty p limit front piece new used None = IsRefusedAt faulty p limit new (front ++ piece)
+EndsRefused faulty p limit front piece new used (Some Whole) = Unit {0}
+EndsRefused faulty p limit front piece new used (Some (Bad id fault)) = IsRefused faulty p limit (front ++ take used piece) fault
+
+-- what a feed returns of such a frame
+abbrev pub Refuses : (faulty : List Begun → List ℕ → Fault → Type 0) → KindSet → ℕ → (front piece : List ℕ) → Frames → Result Came FeedErr → Type 0
+Refuses faulty p limit front piece new (Ok came) = EndsRefused faulty p limit front piece new.state came.used came.outcome
+Refuses faulty p limit front piece new (Err error) = Unit {0}
+
+-- whatever front came, and whatever a listener holds of earlier messages, it is so after a feed of the piece; the first three relations are of what it received before
+abbrev pub RefusesFrom : (begins0 stands0 : List ℕ → List Begun → Type 0) (faulty0 faulty : List ℕ → List Begun → List ℕ → Fault → Type 0) → (old new : Frames) → List ℕ → Result Came FeedErr → Type 0
+RefusesFrom begins0 stands0 faulty0 faulty old new piece result = (was front : List ℕ) → ComesTo (begins0 was) (stands0 was) old front → IsRefusedAt (faulty0 was) old.body.reader.set old.limit old.state front → Refuses (faulty was) old.body.reader.set old.limit front piece new result

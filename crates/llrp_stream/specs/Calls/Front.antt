@@ -18,3 +18,7 @@ pub record Reaches (p : KindSet) (front : List ℕ) (octets : ℕ) (t : List Beg
 -- whatever the rest of the frame is, the front does not decide the next checks of the open tree
 abbrev pub IsUndecided : List ℕ → ℕ → List Begun → Type 0
 IsUndecided front octets t = (more : List ℕ) → length (front ++ more) ≡ octets → 8 * length front < deciding t (drop (length (covers t)) (digits_of_bytes (front ++ more)))
+
+-- whatever the rest of the frame is, this many bits of it decide the next checks of the open tree
+abbrev pub AreDeciding : (bits : ℕ) → (front : List ℕ) → (octets : ℕ) → List Begun → Type 0
+AreDeciding bits front octets t = (more : List ℕ) → length (front ++ more) ≡ octets → deciding t (drop (length (covers t)) (digits_of_bytes (front ++ more))) ≤ bits

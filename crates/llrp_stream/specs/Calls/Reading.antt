@@ -1,9 +1,11 @@
 -- What the engine keeps of a front of a frame.
-use Rattle.std.specs.Prelude.{Some, get_or, ◌≡◌, ℕ, ◌+◌, ◌-◌, ◌*◌, ◌<◌, ◌≤◌, Bool, true, List, [], ◌∷◌, ◌++◌, length, drop, reverse, min}
+use Rattle.std.specs.Prelude.{Option, Some, None, get_or, ◌≡◌, ◌≢◌, ℕ, ◌+◌, ◌-◌, ◌*◌, ◌<◌, ◌≤◌, Bool, true, List, [], ◌∷◌, ◌++◌, length, drop, reverse, min}
 use Rattle.tag_bits.specs.Digits.{digits_of_bytes}
 use Rattle.llrp_schema.specs.Schema.{GroupRule}
 use Rattle.std.specs.Int.{bit_at}
 use Rattle.llrp_tree.specs.declared.TheConstants.{MAX_LIMIT}
+use Rattle.llrp_tree.specs.declared.fault.Reason.{Reason}
+use Rattle.llrp_tree.specs.declared.fault.Reason.TheVariants.{Utf8}
 use Rattle.llrp_tree.specs.Tree.{Forest, none, and}
 use Rattle.llrp_schema.specs.declared.kinds.Kind.{Kind}
 use Rattle.llrp_schema.specs.declared.kinds.Kind.TheVariants.{Message, Parameter}
@@ -12,6 +14,7 @@ use Rattle.llrp_tree.specs.Lawful.{count, count_octets, first}
 use Rattle.llrp_tree.specs.OpenTree.{Begun, kind_of_head, groups, rules, form, has_tail, plain_values, due, Rest}
 use Rattle.llrp_tree.specs.Calls.Standing.{begin_node, leading}
 use Rattle.llrp_stream.specs.declared.engine.stack.StackNode.{StackNode}
+use Rattle.llrp_stream.specs.declared.engine.listener.Stopped.{Stopped}
 use Rattle.llrp_stream.specs.declared.engine.body_reader.Stage.{Stage}
 use Rattle.llrp_stream.specs.declared.engine.body_reader.Stage.TheVariants.{Leading, Tail, Children}
 use Rattle.llrp_stream.specs.declared.engine.body_reader.BodyReader.{BodyReader}
@@ -93,11 +96,34 @@ pub record HasReadTo (r : BodyReader) (front : List ℕ) (b : Begun) (outer : Li
   pub small : r.octets ≤ MAX_LIMIT
   pub bit_small : r.bit < 8
 
+-- what comes next in the innermost node: the field with this index or the tail, more octets of its tail, or a child or its end; of a node without a tail yet the first field is known
+abbrev pub IsDueAt : Stage → (known : ℕ) → Begun → Type 0
+IsDueAt (Leading next) known b = (length b.fields ≡ next) × (b.tail ≡ None) × (known ≡ first b.fields)
+IsDueAt (Tail left) known b = (so_far : List ℕ) × (b.tail ≡ Some so_far)
+IsDueAt Children known b = due b ≡ Rest
+
+-- a fault of text comes within a tail, and no other does
+abbrev pub MayFailFor : Stage → Reason → Type 0
+MayFailFor (Leading next) reason = Unit {0}
+MayFailFor (Tail left) reason = reason ≡ Utf8
+MayFailFor Children reason = reason ≢ Utf8
+
+-- so the innermost node of an open tree is read where a check fails for the reason; without one nothing is begun
+abbrev pub IsStopped : Option Stopped → List Begun → Reason → Type 0
+IsStopped None t reason = t ≡ []
+IsStopped (Some stopped) [] reason = ⊥
+IsStopped (Some stopped) (b ∷ outer) reason = IsLevel stopped.node b b.children × IsDueAt stopped.stage stopped.first b × MayFailFor stopped.stage reason
+
 -- what a listener received, by what comes next
 abbrev pub Told : (begins stands : List Begun → Type 0) → Stage → List Begun → Type 0
 Told begins stands (Leading next) t = begins t
 Told begins stands (Tail left) t = begins t
 Told begins stands Children t = stands t
+
+-- the same, by how far the innermost node of a faulty frame is read
+abbrev pub ToldBy : (begins stands : List Begun → Type 0) → Option Stopped → List Begun → Type 0
+ToldBy begins stands None t = stands t
+ToldBy begins stands (Some stopped) t = Told begins stands stopped.stage t
 
 -- Both have come so far.
 pub record Are (begins stands : List Begun → Type 0) (r : BodyReader) (front : List ℕ) : Type 0 where

@@ -1,5 +1,5 @@
 -- What a listener receives of a message: an open tree, part by part.
-use Rattle.std.specs.Prelude.{◌≡◌, ℕ, ◌*◌, ◌⊎◌, Bool, List, [], ◌∷◌, ◌++◌, length, drop, Option, Some, None, unwrap_or}
+use Rattle.std.specs.Prelude.{◌≡◌, ℕ, ◌+◌, ◌*◌, ◌<◌, ◌≤◌, ◌⊎◌, Bool, true, nat_le, List, [], ◌∷◌, ◌++◌, length, drop, Option, Some, None, unwrap_or}
 use Rattle.std.specs.Str.{IsUtf8}
 use Rattle.llrp_schema.specs.declared.kinds.ParamKind.{ParamKind}
 use Rattle.llrp_schema.specs.declared.kinds.Kind.TheVariants.{Message, Parameter}
@@ -9,14 +9,16 @@ use Rattle.llrp_schema.specs.Schema.{FieldRule, fields_of, plain_fields_of, tail
 use Rattle.llrp_tree.specs.Tree.{Forest, none, and, Tree, MessageTree}
 use Rattle.llrp_tree.specs.Lawful.{AreInRange, IsLawfulTree, IsLawfulMessage}
 use Rattle.llrp_tree.specs.Spelling.{Head, message, tlv, tv}
-use Rattle.llrp_tree.specs.OpenTree.{Begun, kind_of_head, rules, plain_values, due, Rest, IsOpenTree, MayBegin, root_set}
+use Rattle.llrp_tree.specs.OpenTree.{Begun, kind_of_head, rules, plain_values, due, Rest, IsOpenTree, MayBegin, root_set, covers}
 use Rattle.tag_bits.specs.Digits.{digits_of_bytes}
 use Rattle.llrp_schema.specs.declared.kinds.KindSet.{KindSet}
 use Rattle.llrp_tree.specs.declared.fault.Fault.{Fault}
 use Rattle.llrp_tree.specs.declared.fault.Reason.{Reason}
 use Rattle.llrp_tree.specs.declared.fault.Reason.TheVariants.{Utf8}
-use Rattle.llrp_tree.specs.FirstFault.{next_fault}
+use Rattle.llrp_tree.specs.FirstFault.{has_ended, next_fault}
 use Rattle.llrp_tree.specs.Calls.Standing.{IsAt, begin_node, leading}
+use Rattle.llrp_stream.specs.Calls.Front.{AreDeciding}
+use Rattle.llrp_stream.specs.Calls.Items.{header_fault_in}
 
 -- one field more in the innermost node
 abbrev pub with_field : ℕ → List Begun → List Begun
@@ -62,13 +64,14 @@ pub record IsNextValue (t : List Begun) (kind : ParamKind) (value : ℕ) : Type 
   pub may_begin : MayBegin node kind
   pub range : AreInRange (plain_fields_of (Parameter kind)) (value ∷ [])
 
--- the innermost node has all its parts
+-- the innermost node has all its parts, and ends where its length says
 pub record IsReady (t : List Begun) : Type 0 where
   pub node : Begun
   pub outer : List Begun
   pub tree_is : t ≡ node ∷ outer
   pub ready : due node ≡ Rest
   pub is_open : IsOpenTree t
+  pub ended : has_ended node.head (nat_le node.stop (length (covers t))) ≡ true
 
 -- the message of a node of which all is read
 abbrev pub IsMessageOf : Head → List ℕ → Option (List ℕ) → Forest → MessageTree → Type 0
@@ -142,3 +145,21 @@ pub record IsFaultIn (p : KindSet) (front : List ℕ) (octets : ℕ) (t : List B
   pub is : (t ≡ tree) ⊎ ((fault.reason ≡ Utf8) × (without_tail t ≡ tree))
   pub root : root_set tree ≡ p
   pub fails : (more : List ℕ) → length (front ++ more) ≡ octets → FailsAt (digits_of_bytes (front ++ more)) tree fault.bit fault.reason
+
+-- the first digit after an open tree is in this octet
+abbrev pub EndsInOctet : List Begun → ℕ → Type 0
+EndsInOctet t place = (8 * place ≤ length (covers t)) × (length (covers t) < 8 * place + 8)
+
+-- These octets stand in the front from the one on in which the first digit after the open tree is; they decide the next checks of the tree, but where text is no UTF-8.
+pub record StandAfter (t : List Begun) (front : List ℕ) (octets : ℕ) (handed : List ℕ) (fault : Fault) : Type 0 where
+  pub place : ℕ
+  pub is : EndsInOctet t place
+  pub within : place ≤ length front
+  pub later : List ℕ
+  pub are : drop place front ≡ handed ++ later
+  pub decide : (fault.reason ≡ Utf8) ⊎ AreDeciding (8 * (place + length handed)) front octets t
+
+-- The frame that begins so, of this many octets, has the fault: in its header, where nothing is received of it, or at this open tree, where the frame is within the limit. The octets are those after the tree, of a header's fault the header.
+pub record IsRefusedIn (p : KindSet) (limit : ℕ) (front : List ℕ) (octets : ℕ) (t : List Begun) (handed : List ℕ) (fault : Fault) : Type 0 where
+  pub fault_is : ((t ≡ []) × (header_fault_in p limit front ≡ Some (fault.bit, fault.reason)) × (length handed ≡ 10)) ⊎ (IsFaultIn p front octets t fault × (octets ≤ limit))
+  pub after : StandAfter t front octets handed fault

@@ -6,6 +6,7 @@ use Rattle.llrp_tree.specs.declared.header.Header.{Header}
 use Rattle.llrp_tree.specs.Tree.{MessageTree}
 use Rattle.llrp_tree.specs.Lawful.{AreOctets}
 use Rattle.llrp_tree.specs.Calls.Header.{HasHeaderIn}
+use Rattle.llrp_tree.specs.declared.fault.Fault.{Fault}
 use Rattle.llrp_tree.specs.FirstFault.{FirstFaultIn}
 use Rattle.llrp_tree.specs.OpenTree.{Begun}
 use Rattle.llrp_stream.specs.declared.header.FaultyHeader.{FaultyHeader}
@@ -23,7 +24,7 @@ use Rattle.llrp_stream.specs.Cuts.{IsFrame, Breaks}
 use Rattle.llrp_stream.specs.Items.{id_field}
 use Rattle.llrp_stream.specs.Calls.Items.{IsSkipped}
 use Rattle.llrp_stream.specs.Calls.Pieces.{BodyStands}
-use Rattle.llrp_stream.specs.Calls.Frames.{GivesIn, IsPassed, TakesOn}
+use Rattle.llrp_stream.specs.Calls.Frames.{GivesIn, IsPassed, Refuses, TakesOn}
 use Rattle.llrp_stream.specs.Private.Reading.{IsComplete}
 
 -- The listener received an open tree, which with the raw octets covers a front of such a frame.
@@ -63,6 +64,12 @@ SkipsTo p limit front piece new used (Some outcome) = (used ≤ length piece) ×
 abbrev pub Skips : KindSet → ℕ → (count : ℕ) → FaultyHeader → List ℕ → Frames → Came → Type 0
 Skips p limit count header piece new came = (front : List ℕ) → IsSkipped p limit count header.octets header.id header.fault front → SkipsTo p limit front piece new came.used came.outcome
 
+-- the fault of this header is that which is kept, or that of the frame that ended
+abbrev pub KeepsFault : FaultyHeader → State → Option Outcome → Type 0
+KeepsFault header new None = (count : ℕ) × (new ≡ Skipping count header)
+KeepsFault header new (Some Whole) = ⊥
+KeepsFault header new (Some (Bad id fault)) = fault ≡ header.fault
+
 -- ---- the same whatever a listener holds of earlier messages
 
 -- where its header passes its checks, this is what a feed within a frame does
@@ -100,3 +107,13 @@ FinishesFrom heard stands ends r = (was front : List ℕ) (limit : ℕ) → IsCo
 abbrev pub EndsFrom : (heard stands : List ℕ → List Begun → Type 0) (ends : List ℕ → MessageTree → List ℕ → Type 0) → (old new : Frames) → Type 0
 EndsFrom heard stands ends old new = (was front : List ℕ) → IsComplete (heard was) old.body.reader front → AreOctets front → old.body.reader.octets ≤ old.limit
     → GivesIn new.body.reader.set (stands was) (ends was) (λ now. stands now []) old.limit front Whole
+
+-- ---- a fault that was handed on, whatever a listener holds of earlier messages
+
+-- so it is after a feed where a frame begins; the first relation is of what was received before it
+abbrev pub BeginsRefused : (heard : List ℕ → List Begun → Type 0) (faulty : List ℕ → List Begun → List ℕ → Fault → Type 0) → KindSet → ℕ → (front piece : List ℕ) → Frames → Result Came FeedErr → Type 0
+BeginsRefused heard faulty p limit front piece new result = (was : List ℕ) → heard was [] → Refuses (faulty was) p limit front piece new result
+
+-- the same after one within a frame
+abbrev pub GoesOnRefused : (begins0 stands0 : List ℕ → List Begun → Type 0) (faulty : List ℕ → List Begun → List ℕ → Fault → Type 0) → (id : ℕ) → (old new : Frames) → List ℕ → Result Came FeedErr → Type 0
+GoesOnRefused begins0 stands0 faulty id old new piece result = (was front : List ℕ) → IsBegun (begins0 was) (stands0 was) old.limit id old.body front → Refuses (faulty was) old.body.reader.set old.limit front piece new result

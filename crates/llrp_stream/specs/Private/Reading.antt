@@ -6,6 +6,7 @@ use Rattle.llrp_schema.specs.declared.kinds.KindSet.TheVariants.{Profile, Standa
 use Rattle.llrp_schema.specs.Schema.{GroupRule, bits_of, fields_of, groups_of, is_tv, set_of_kind, tail_of}
 use Rattle.llrp_schema.specs.declared.kinds.Tail.TheVariants.{Absent}
 use Rattle.llrp_tree.specs.declared.TheConstants.{MAX_LIMIT}
+use Rattle.llrp_tree.specs.declared.fault.Fault.{Fault}
 use Rattle.llrp_tree.specs.declared.fault.FrameErr.{FrameErr}
 use Rattle.llrp_tree.specs.Tree.{Forest}
 use Rattle.llrp_schema.specs.declared.kinds.Kind.{Kind}
@@ -26,7 +27,7 @@ use Rattle.llrp_stream.specs.declared.engine.body_reader.Step.{Step}
 use Rattle.llrp_stream.specs.declared.engine.body_reader.Step.TheVariants.{Waits, Goes, Ends}
 use Rattle.llrp_stream.specs.declared.engine.body_reader.BodyReader.{BodyReader}
 use Rattle.llrp_stream.specs.Calls.Front.{Reaches, IsUndecided}
-use Rattle.llrp_stream.specs.Private.Front.{FailsWith}
+use Rattle.llrp_stream.specs.Private.Front.{FailsHanded, FailsWith}
 use Rattle.llrp_stream.specs.Calls.Reading.{with_begun, AreSeen, settled, Are}
 
 -- The message has all its parts.
@@ -71,7 +72,12 @@ abbrev pub Steps : (begins stands : List Begun → Type 0) → (old new : BodyRe
 Steps begins stands old new front octets (Ok Waits) = Waiting begins stands old new front octets
 Steps begins stands old new front octets (Ok (Goes used)) = Moves begins stands old new front octets used
 Steps begins stands old new front octets (Ok Ends) = IsComplete stands new front × (new.at ≡ old.at) × (new.octets ≡ old.octets) × (new.set ≡ old.set)
-Steps begins stands old new front octets (Err e) = FailsWith begins stands old.set front old.octets e
+Steps begins stands old new front octets (Err e) = FailsWith begins stands new old.at old.set front old.octets e
+
+-- the same, where a fault is handed on
+abbrev pub StepsHanded : (begins stands : List Begun → Type 0) → (faulty : List Begun → List ℕ → Fault → Type 0) → (old new : BodyReader) → (front octets : List ℕ) → Result Step FrameErr → Type 0
+StepsHanded begins stands faulty old new front octets (Ok step) = Steps begins stands old new front octets (Ok step)
+StepsHanded begins stands faulty old new front octets (Err e) = FailsHanded stands faulty old.set front old.octets e
 
 -- A child's kind passes its checks, and these are its parent's bits once it has begun.
 pub record MayBeginThere (found : Option ParamKind) (groups : List GroupRule) (children : Forest) (level : ℕ) (placed : Placed) : Type 0 where
@@ -170,6 +176,10 @@ HeadSays p groups children level at stop rest octets (Err e) = HeadFails p group
 -- whatever children the bits of the groups are of, and whatever comes later, this is read of a head
 abbrev pub HeadIs : Kind → (seen level at stop : ℕ) → List ℕ → Result Child FrameErr → Type 0
 HeadIs parent seen level at stop octets result = (children : Forest) (later : List Bool) → AreSeen (groups_of parent) children seen → HeadSays (set_of_kind parent) (groups_of parent) children level (8 * at) (8 * stop) (digits_of_bytes octets ++ later) octets result
+
+-- The octets decide the checks of a child's head: the parent has no children, or four octets of it are there, or one, where a head with a length ends after the parent or the child has type and value.
+abbrev pub HasHead : Kind → (at stop : ℕ) → List ℕ → Type 0
+HasHead parent at stop octets = (has_none (groups_of parent) ≡ true) ⊎ ((1 ≤ length octets) × ((4 ≤ length octets) ⊎ ((stop < at + 4) ⊎ ((later : List Bool) → first_digit (digits_of_bytes octets ++ later) ≡ true))))
 
 -- whatever children they are of, a child of this kind may begin in the parent, or the error is the first check that it fails
 abbrev pub PlacesKind : Option ParamKind → Kind → (seen level at type_at : ℕ) → Result Placed FrameErr → Type 0

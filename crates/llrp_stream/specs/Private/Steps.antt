@@ -2,6 +2,7 @@
 use Rattle.std.specs.Prelude.{◌≡◌, ℕ, ◌+◌, ◌*◌, ◌<◌, ◌≤◌, ◌^◌, Bool, true, List, [], ◌∷◌, length, drop, Result, MatchResult}
 use Rattle.llrp_schema.specs.declared.kinds.Kind.TheVariants.{Parameter}
 use Rattle.llrp_schema.specs.Schema.{FieldRule, fields_of, groups_of}
+use Rattle.llrp_tree.specs.declared.fault.Fault.{Fault}
 use Rattle.llrp_tree.specs.declared.fault.FrameErr.{FrameErr}
 use Rattle.llrp_tree.specs.declared.fault.FrameErr.TheVariants.{Memory}
 use Rattle.llrp_tree.specs.Spelling.{Head}
@@ -17,7 +18,7 @@ use Rattle.llrp_stream.specs.Calls.Front.{Reaches}
 use Rattle.llrp_stream.specs.Calls.Reading.{Are, AreSeen, HasReadTo, with_begun}
 use Rattle.llrp_stream.specs.Private.Front.{FailsWith}
 use Rattle.llrp_stream.specs.Private.Pieces.{ReadsOn}
-use Rattle.llrp_stream.specs.Private.Reading.{Moves, Steps, TakesOneValue}
+use Rattle.llrp_stream.specs.Private.Reading.{Moves, Steps, StepsHanded, TakesOneValue}
 
 -- the field of a rule has this value, or the error is the first check that it fails
 abbrev pub FieldSays : FieldRule → (at stop : ℕ) → List Bool → Result ℕ FrameErr → Type 0
@@ -46,8 +47,8 @@ abbrev pub MovesOn : (heard begins stands : List ℕ → List Begun → Type 0) 
 MovesOn heard begins stands old new octets used = Wherever heard old octets (λ was front. Moves (begins was) (stands was) old new front octets used)
 
 -- wherever it has come, the error is the fault of the frame, or that memory ran out
-abbrev pub FailsOn : (heard begins stands : List ℕ → List Begun → Type 0) → BodyReader → List ℕ → FrameErr → Type 0
-FailsOn heard begins stands old octets error = Wherever heard old octets (λ was front. FailsWith (begins was) (stands was) old.set front old.octets error)
+abbrev pub FailsOn : (heard begins stands : List ℕ → List Begun → Type 0) → (old new : BodyReader) → List ℕ → FrameErr → Type 0
+FailsOn heard begins stands old new octets error = Wherever heard old octets (λ was front. FailsWith (begins was) (stands was) new old.at old.set front old.octets error)
 
 -- wherever a field of this rule is the next one, this is what a step does
 abbrev pub StepsOnField : (heard begins stands : List ℕ → List Begun → Type 0) → (old new : BodyReader) → List ℕ → (next : ℕ) → FieldRule → Result Step FrameErr → Type 0
@@ -80,9 +81,13 @@ Whenever begins stands r octets holds = (was front : List ℕ) → Are (begins w
 abbrev pub StepsFrom : (begins0 stands0 begins stands : List ℕ → List Begun → Type 0) → (old new : BodyReader) → List ℕ → Result Step FrameErr → Type 0
 StepsFrom begins0 stands0 begins stands old new octets result = Whenever begins0 stands0 old octets (λ was front. Steps (begins was) (stands was) old new front octets result)
 
+-- the same, where a fault is handed on
+abbrev pub HandsFrom : (begins0 stands0 begins stands : List ℕ → List Begun → Type 0) (faulty : List ℕ → List Begun → List ℕ → Fault → Type 0) → (old new : BodyReader) → List ℕ → Result Step FrameErr → Type 0
+HandsFrom begins0 stands0 begins stands faulty old new octets result = Whenever begins0 stands0 old octets (λ was front. StepsHanded (begins was) (stands was) (faulty was) old new front octets result)
+
 -- the same of all steps that these octets allow
-abbrev pub ReadsFrom : (begins0 stands0 begins stands : List ℕ → List Begun → Type 0) → (old new : BodyReader) → List ℕ → Result ReadParts FrameErr → Type 0
-ReadsFrom begins0 stands0 begins stands old new octets result = Whenever begins0 stands0 old octets (λ was front. ReadsOn (begins was) (stands was) old new front octets result)
+abbrev pub ReadsFrom : (begins0 stands0 begins stands : List ℕ → List Begun → Type 0) (faulty : List ℕ → List Begun → List ℕ → Fault → Type 0) → (old new : BodyReader) → List ℕ → Result ReadParts FrameErr → Type 0
+ReadsFrom begins0 stands0 begins stands faulty old new octets result = Whenever begins0 stands0 old octets (λ was front. ReadsOn (begins was) (stands was) (faulty was) old new front octets result)
 
 -- the same of a parameter of type and value that has this many octets
 abbrev pub TakesFrom : (begins0 stands0 begins stands : List ℕ → List Begun → Type 0) → (old new : BodyReader) → List ℕ → ℕ → Type 0

@@ -79,7 +79,7 @@ impl BodyReader {
             (L.begins listener.new) (L.stands listener.new) self.old self.new octets.now used) }
         ensures none { result ≡ Ok 0 → (self.new ≡ self.old) × (listener.new ≡ listener.old) }
         ensures fails { IfErr result (FailsOn (L.stands listener.old) (L.begins listener.new)
-            (L.stands listener.new) self.old octets.now) }
+            (L.stands listener.new) self.old self.new octets.now) }
         ensures rests { IfOk result (λ used. Rests self.new) }
     {
         let found = known_head(
@@ -120,7 +120,7 @@ impl BodyReader {
             (L.begins listener.new) (L.stands listener.new) self.old self.new octets.now used) }
         ensures none { result ≡ Ok 0 → (self.new ≡ self.old) × (listener.new ≡ listener.old) }
         ensures fails { IfErr result (FailsOn (L.stands listener.old) (L.begins listener.new)
-            (L.stands listener.new) self.old octets.now) }
+            (L.stands listener.new) self.old self.new octets.now) }
         ensures rests { IfOk result (λ used. Rests self.new) }
     {
         self.begin_bare(
@@ -149,7 +149,7 @@ impl BodyReader {
             (L.begins listener.new) (L.stands listener.new) self.old self.new octets.now used) }
         ensures none { result ≡ Ok 0 → (self.new ≡ self.old) × (listener.new ≡ listener.old) }
         ensures fails { IfErr result (FailsOn (L.stands listener.old) (L.begins listener.new)
-            (L.stands listener.new) self.old octets.now) }
+            (L.stands listener.new) self.old self.new octets.now) }
         ensures rests { IfOk result (λ used. Rests self.new) }
     {
         if !self.outer.is_empty() {
@@ -205,7 +205,7 @@ impl BodyReader {
             (L.begins listener.new) (L.stands listener.new) self.old self.new octets.now used) }
         ensures none { result ≡ Ok 0 → (self.new ≡ self.old) × (listener.new ≡ listener.old) }
         ensures fails { IfErr result (FailsOn (L.stands listener.old) (L.begins listener.new)
-            (L.stands listener.new) self.old octets.now) }
+            (L.stands listener.new) self.old self.new octets.now) }
     {
         let found = known_head(
             octets,
@@ -242,7 +242,7 @@ impl BodyReader {
             (L.begins listener.new) (L.stands listener.new) self.old self.new octets.now used) }
         ensures none { result ≡ Ok 0 → (self.new ≡ self.old) × (listener.new ≡ listener.old) }
         ensures fails { IfErr result (FailsOn (L.stands listener.old) (L.begins listener.new)
-            (L.stands listener.new) self.old octets.now) }
+            (L.stands listener.new) self.old self.new octets.now) }
     {
         let is_event = is_event_data(self.top.kind);
         if !is_event || self.outer.len() != 1 || octets.len() < 2 {

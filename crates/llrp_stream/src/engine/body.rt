@@ -66,7 +66,7 @@ impl Body {
         requires some { HasRoomFor (L.begins listener.old) (L.stands listener.old) self.old
             (octet ∷ []) }
         ensures { FeedsFrom (L.begins listener.old) (L.stands listener.old) (L.begins listener.new)
-            (L.stands listener.new) self.old self.new (octet ∷ []) result }
+            (L.stands listener.new) (L.faulty listener.new) self.old self.new (octet ∷ []) result }
     {
         self.raw.push(octet);
         let read = self.reader.read(listener, self.raw.as_slice())?;
@@ -86,7 +86,7 @@ impl Body {
         requires some { HasRoomFor (L.begins listener.old) (L.stands listener.old) self.old
             piece.now }
         ensures { FeedsFrom (L.begins listener.old) (L.stands listener.old) (L.begins listener.new)
-            (L.stands listener.new) self.old self.new piece.now result }
+            (L.stands listener.new) (L.faulty listener.new) self.old self.new piece.now result }
     {
         let read = self.reader.read(listener, piece)?;
         if read.whole {
@@ -107,7 +107,7 @@ impl Body {
     ) -> Result<bool, FrameErr>
         requires { HasRoomFor (L.begins listener.old) (L.stands listener.old) self.old piece.now }
         ensures { FeedsFrom (L.begins listener.old) (L.stands listener.old) (L.begins listener.new)
-            (L.stands listener.new) self.old self.new piece.now result }
+            (L.stands listener.new) (L.faulty listener.new) self.old self.new piece.now result }
     {
         let mut rest = piece;
         'raw: while !self.raw.is_empty() {

@@ -11,10 +11,10 @@ ghost use Rattle.llrp_schema.specs.declared.kinds.Kind.TheVariants.{Parameter};
 ghost use Rattle.llrp_tree.specs.Private.Standing.{is_tv_kind};
 ghost use Rattle.llrp_tree.specs.declared.fault.FrameErr.TheVariants.{Bad, Memory};
 ghost use Rattle.llrp_stream.specs.declared.engine.body_reader.Step.TheVariants as Step;
-ghost use Rattle.llrp_stream.specs.Private.Steps.{AreBefore, FieldSays, HasCome, HasComeTo, ReadsFrom, StepsFrom, StepsInto, StepsOn, StepsOnField};
+ghost use Rattle.llrp_stream.specs.Private.Steps.{AreBefore, FieldSays, HandsFrom, HasCome, HasComeTo, ReadsFrom, StepsFrom, StepsInto, StepsOn, StepsOnField};
 ghost use Rattle.llrp_stream.specs.declared.engine.body_reader.Stage.TheVariants as Stage;
 
-use crate::engine::listener::Listener;
+use crate::engine::listener::{Listener, Stopped, hand};
 use crate::engine::stack::{Child, Placed, StackNode, begun, child_head, is_enough};
 use crate::engine::tail::is_absent;
 use arrayvec::ArrayVec;
@@ -24,7 +24,7 @@ use llrp_tree::{Fault, FrameErr, LEVELS, Reason};
 
 /// What comes next in the innermost node.
 #[derive(Clone, Copy)]
-pub(crate) enum Stage {
+pub enum Stage {
     /// The field with this index, or the tail, or what comes after both.
     Leading(u32),
     /// Octets of its tail, of which this many are left.
@@ -350,6 +350,28 @@ impl BodyReader {
         }
     }
 
+    /// Does a step, and hands its fault to the listener, with the octets from the part on that has it.
+    #[inline(always)]
+    fn take_part<L: Listener>(&mut self, listener: &mut L, octets: &[u8]) -> Result<Step, FrameErr>
+        requires { AreBefore (L.begins listener.old) (L.stands listener.old) self.old octets.now }
+        ensures { HandsFrom (L.begins listener.old) (L.stands listener.old) (L.begins listener.new)
+            (L.stands listener.new) (L.faulty listener.new) self.old self.new octets.now result }
+    {
+        match self.step(listener, octets) {
+            Ok(step) => Ok(step),
+            Err(FrameErr::Memory) => Err(FrameErr::Memory),
+            Err(FrameErr::Bad(fault)) => {
+                let stopped = Stopped {
+                    node: self.top,
+                    stage: self.stage,
+                    first: self.first,
+                };
+                hand(listener, fault, Some(stopped), octets);
+                Err(FrameErr::Bad(fault))
+            }
+        }
+    }
+
     /// Reads all parts that are whole in the octets.
     pub(crate) fn read<L: Listener>(
         &mut self,
@@ -358,11 +380,11 @@ impl BodyReader {
     ) -> Result<ReadParts, FrameErr>
         requires { AreBefore (L.begins listener.old) (L.stands listener.old) self.old octets.now }
         ensures { ReadsFrom (L.begins listener.old) (L.stands listener.old) (L.begins listener.new)
-            (L.stands listener.new) self.old self.new octets.now result }
+            (L.stands listener.new) (L.faulty listener.new) self.old self.new octets.now result }
     {
         let mut rest = octets;
         'parts: loop {
-            match self.step(listener, rest)? {
+            match self.take_part(listener, rest)? {
                 Step::Waits => {
                     return Ok(ReadParts {
                         used: octets.len() - rest.len(),

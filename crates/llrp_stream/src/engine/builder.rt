@@ -3,10 +3,10 @@
 ghost use Rattle.std.specs.Prelude.{◌≡◌, ◌^◌, ◌-◌, [], None, min};
 ghost use Rattle.llrp_stream.specs.Building.{nodes_weight};
 
-use crate::engine::listener::Listener;
+use crate::engine::listener::{Listener, Stopped};
 use crate::engine::open_nodes::OpenNodes;
 use llrp_schema::{Field, Kind, MsgKind, ParamKind, Tail};
-use llrp_tree::Message;
+use llrp_tree::{Fault, Message};
 use std::alloc::{AllocError, Global};
 use std::marker::Model;
 
@@ -83,6 +83,8 @@ impl Listener for Builder {
 
     ghost ends = { λ self was m now. (self.done ≡ Some m) × (self.nodes ≡ []) };
 
+    ghost faulty = { λ self was t octets fault. Unit {0} };
+
     fn message(
         &mut self,
         version: u8,
@@ -132,6 +134,10 @@ impl Listener for Builder {
     fn end(&mut self) -> Result<(), AllocError> {
         self.done = Some(self.nodes.finish(self.version, self.id));
         Ok(())
+    }
+
+    fn fault(&mut self, _fault: Fault, _stopped: Option<Stopped>, _octets: &[u8]) {
+        self.give_up();
     }
 
     fn give_up(&mut self) {

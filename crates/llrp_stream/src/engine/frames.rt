@@ -10,17 +10,16 @@ ghost use Rattle.llrp_stream.specs.declared.engine.frames.Outcome.TheVariants as
 ghost use Rattle.llrp_tree.specs.Lawful.{AreOctets};
 ghost use Rattle.llrp_stream.specs.declared.item.End.TheVariants as at_end;
 ghost use Rattle.llrp_stream.specs.Cuts.{EndsStream};
-ghost use Rattle.llrp_stream.specs.Private.Frames.{BeginsFrom, EndsFrom, GoesOnFrom, IsBegun, OpensFrom, Skips};
-ghost use Rattle.llrp_stream.specs.Calls.Frames.{Comes, GoesFrom, IsBroken, IsDead, IsFrontOf, IsIdle, Stops, held_of, limit_of, raw_of, set_of};
+ghost use Rattle.llrp_stream.specs.Private.Frames.{BeginsFrom, BeginsRefused, EndsFrom, GoesOnFrom, GoesOnRefused, IsBegun, KeepsFault, OpensFrom, Skips};
+ghost use Rattle.llrp_stream.specs.Calls.Frames.{Comes, GoesFrom, IsBroken, IsDead, IsFrontOf, IsIdle, RefusesFrom, Stops, held_of, limit_of, raw_of, set_of};
 ghost use Rattle.llrp_stream.specs.Calls.Decoding.{IsDecidedIn};
 ghost use Rattle.llrp_stream.specs.Private.Reading.{IsComplete};
-ghost use Rattle.llrp_stream.specs.Private.Received.{Remains};
 ghost use Rattle.llrp_stream.specs.Private.Headers.{IsSound};
 ghost use Rattle.llrp_stream.specs.Calls.Items.{HasHeaderFaultIn};
 
 use crate::engine::body::Body;
 use crate::engine::frame::{finish, receive_bare, start};
-use crate::engine::listener::Listener;
+use crate::engine::listener::{Listener, hand};
 use crate::header::{FaultyHeader, FrameStart, start_of};
 use crate::item::{End, FeedErr};
 use crate::state::{State, before_body};
@@ -131,6 +130,7 @@ impl Frames {
         ensures body { self.new.body ≡ self.old.body }
         ensures skips { (p : KindSet) (limit : ℕ) → Skips p limit count header piece.now self.new
             result }
+        ensures fault { KeepsFault header self.new.state result.outcome }
     {
         let left = header.octets - count;
         if piece.len() < left as usize {
@@ -152,13 +152,7 @@ impl Frames {
     }
 
     /// Gives up a faulty frame of which `count` octets were taken, and skips the rest of it.
-    fn give_up<L: Listener>(
-        &mut self,
-        listener: &mut L,
-        count: u32,
-        header: FaultyHeader,
-        piece: &[u8],
-    ) -> Came
+    fn give_up(&mut self, count: u32, header: FaultyHeader, piece: &[u8]) -> Came
         requires begun { 10 ≤ count }
         requires inside { count ≤ header.octets }
         ensures within { result.used ≤ length piece.now }
@@ -168,11 +162,8 @@ impl Frames {
         ensures raw { self.new.body.raw.items ≡ [] }
         ensures skips { (p : KindSet) → Skips p self.old.limit count header piece.now self.new
             result }
-        ensures told { (was : List ℕ) (p : KindSet) (front : List ℕ) (octets : ℕ)
-            → Remains (L.begins listener.old was) (L.stands listener.old was) p front octets header.fault
-            → L.stands listener.new was [] }
+        ensures fault { KeepsFault header self.new.state result.outcome }
     {
-        listener.fault(header.fault);
         self.body.raw.clear();
         self.skip(count, header, piece)
     }
@@ -195,6 +186,8 @@ impl Frames {
         ensures takes { GoesOnFrom (L.begins listener.old) (L.stands listener.old)
             (L.begins listener.new) (L.stands listener.new) (L.ends listener.new) id self.old
             self.new piece.now result }
+        ensures refuses { GoesOnRefused (L.begins listener.old) (L.stands listener.old)
+            (L.faulty listener.new) id self.old self.new piece.now result }
     {
         let octets = self.body.reader.octets;
         let set = self.body.reader.set;
@@ -218,7 +211,7 @@ impl Frames {
             Err(FrameErr::Bad(fault)) => {
                 self.body.reader.set = set;
                 let header = FaultyHeader { octets, id, fault };
-                let came = self.give_up(listener, done + used as u32, header, rest);
+                let came = self.give_up(done + used as u32, header, rest);
                 Ok(after(came, used))
             }
         }
@@ -270,6 +263,8 @@ impl Frames {
         ensures takes { OpensFrom (L.stands listener.old) (L.begins listener.new)
             (L.stands listener.new) (L.ends listener.new) self.old.limit self.old.body.raw.items
             piece.now self.new result }
+        ensures refuses { BeginsRefused (L.stands listener.old) (L.faulty listener.new)
+            self.old.body.reader.set self.old.limit self.old.body.raw.items piece.now self.new result }
     {
         self.body.raw.clear();
         start(&mut self.body, listener, &header)?;
@@ -288,6 +283,8 @@ impl Frames {
         ensures takes { BeginsFrom (L.stands listener.old) (L.begins listener.new)
             (L.stands listener.new) (L.ends listener.new) self.old.limit self.old.body.raw.items
             piece.now self.new result }
+        ensures refuses { BeginsRefused (L.stands listener.old) (L.faulty listener.new)
+            self.old.body.reader.set self.old.limit self.old.body.raw.items piece.now self.new result }
     {
         let used = piece.len().min(HEADER_OCTETS - self.body.raw.len());
         let (near, rest) = piece.split_at(used);
@@ -302,6 +299,7 @@ impl Frames {
                 })
             }
             FrameStart::Faulty(header) => {
+                hand(listener, header.fault, None, self.body.raw.as_slice());
                 self.body.raw.clear();
                 let came = self.skip(HEADER_OCTETS as u32, header, rest);
                 Ok(after(came, used))
@@ -333,6 +331,8 @@ impl Frames {
         ensures takes { OpensFrom (L.stands listener.old) (L.begins listener.new)
             (L.stands listener.new) (L.ends listener.new) self.old.limit _front.now
             piece.now self.new result }
+        ensures refuses { BeginsRefused (L.stands listener.old) (L.faulty listener.new)
+            self.old.body.reader.set self.old.limit _front.now piece.now self.new result }
     {
         let received = receive_bare(&self.body.reader, listener, &header)?;
         if received {
@@ -360,12 +360,15 @@ impl Frames {
         ensures takes { BeginsFrom (L.stands listener.old) (L.begins listener.new)
             (L.stands listener.new) (L.ends listener.new) self.old.limit []
             piece.now self.new result }
+        ensures refuses { BeginsRefused (L.stands listener.old) (L.faulty listener.new)
+            self.old.body.reader.set self.old.limit [] piece.now self.new result }
     {
         let (near, rest) = piece.split_at(HEADER_OCTETS);
         match start_of(self.body.reader.set, near, self.limit) {
             FrameStart::Breaking => Err(FeedErr::Broken),
             FrameStart::Short => unreachable!(),
             FrameStart::Faulty(header) => {
+                hand(listener, header.fault, None, near);
                 let came = self.skip(HEADER_OCTETS as u32, header, rest);
                 Ok(after(came, HEADER_OCTETS))
             }
@@ -389,6 +392,8 @@ impl Frames {
         ensures takes { BeginsFrom (L.stands listener.old) (L.begins listener.new)
             (L.stands listener.new) (L.ends listener.new) self.old.limit self.old.body.raw.items
             piece.now self.new result }
+        ensures refuses { BeginsRefused (L.stands listener.old) (L.faulty listener.new)
+            self.old.body.reader.set self.old.limit self.old.body.raw.items piece.now self.new result }
     {
         if self.body.raw.is_empty() && piece.len() >= HEADER_OCTETS {
             return self.begin_here(listener, piece);
@@ -409,6 +414,8 @@ impl Frames {
         ensures takes { GoesFrom (L.begins listener.old) (L.stands listener.old)
             (L.begins listener.new) (L.stands listener.new) (L.ends listener.new) self.old self.new
             piece.now result }
+        ensures refuses { RefusesFrom (L.begins listener.old) (L.stands listener.old)
+            (L.faulty listener.old) (L.faulty listener.new) self.old self.new piece.now result }
         ensures broken { self.old.state ≡ State.Broken → result ≡ Err failure.Broken }
         ensures dead { self.old.state ≡ State.Dead → result ≡ Err failure.Dead }
     {
@@ -453,6 +460,8 @@ impl Frames {
         ensures takes { GoesFrom (L.begins listener.old) (L.stands listener.old)
             (L.begins listener.new) (L.stands listener.new) (L.ends listener.new) self.old self.new
             piece.now result }
+        ensures refuses { RefusesFrom (L.begins listener.old) (L.stands listener.old)
+            (L.faulty listener.old) (L.faulty listener.new) self.old self.new piece.now result }
         ensures broken { IsBroken self.old → (result ≡ Err failure.Broken) × IsBroken self.new }
         ensures dead { IsDead self.old → (result ≡ Err failure.Dead) × IsDead self.new }
         ensures stops { IfErr result (Stops self.new) }

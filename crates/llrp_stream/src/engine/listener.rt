@@ -9,12 +9,25 @@ ghost use Rattle.llrp_tree.specs.Spelling.{Head, message, tlv, tv};
 ghost use Rattle.llrp_tree.specs.OpenTree.{Begun, kind_of_head, IsOpenTree};
 ghost use Rattle.llrp_tree.specs.Calls.Standing.{leading};
 ghost use Rattle.llrp_schema.specs.declared.kinds.Kind.TheVariants.{Parameter};
-ghost use Rattle.llrp_stream.specs.Calls.Received.{with_field, with_octets, with_value, with_closed, AreWhole, CanClose, CanEnd, IsNextField, IsNextValue, IsBeforeTail, IsInTail, IsReady, IsMessageOf, IsFaultIn};
+ghost use Rattle.llrp_stream.specs.Calls.Received.{with_field, with_octets, with_value, with_closed, AreWhole, CanClose, CanEnd, IsNextField, IsNextValue, IsBeforeTail, IsInTail, IsReady, IsMessageOf, IsRefusedIn};
+ghost use Rattle.llrp_stream.specs.Calls.Reading.{IsStopped, ToldBy};
 ghost use Rattle.llrp_schema.specs.declared.kinds.KindSet.{KindSet};
+ghost use Rattle.llrp_tree.specs.declared.fault.Fault.{Fault};
 
+use crate::engine::body_reader::Stage;
+use crate::engine::stack::StackNode;
 use llrp_schema::{Field, MsgKind, ParamKind, Tail};
 use llrp_tree::Fault;
 use std::alloc::AllocError;
+
+/// How far the innermost node of a frame is read that has a fault.
+#[derive(Clone, Copy)]
+pub struct Stopped {
+    pub node: StackNode,
+    pub stage: Stage,
+    /// The first field of the node, once it was read, while it awaits more of them or its tail.
+    pub first: u128,
+}
 
 /// Receives the parts of a message, in the order in which they are read.
 pub trait Listener {
@@ -28,6 +41,10 @@ pub trait Listener {
 
     /// Holding this of earlier messages, it received this message, and now it holds that.
     ghost ends: { Self → List ℕ → MessageTree → List ℕ → Type 0 };
+
+    /// Holding this of earlier messages, it received this open tree of a faulty frame, and was handed
+    /// these octets and this fault.
+    ghost faulty: { Self → List ℕ → List Begun → List ℕ → Fault → Type 0 };
 
     /// A message begins.
     fn message(
@@ -101,17 +118,39 @@ pub trait Listener {
             → IsMessageOf b.head b.fields b.tail b.children m → (now : List ℕ) × stands self.new now []
             × ends self.new was m now) };
 
-    /// The frame has this fault, which is that of the open tree; forgets what was received of it.
-    fn fault(&mut self, _fault: Fault)
-        ensures { (was : List ℕ) (t : List Begun) (p : KindSet) (front : List ℕ) (octets : ℕ)
-            → (begins self.old was t) ⊎ (stands self.old was t)
-            → IsFaultIn p front octets t _fault → stands self.new was [] }
-    {
-        self.give_up();
-    }
+    /// The frame has this fault, which is that of the open tree, and these octets come after what was
+    /// received. Of a fault of the header nothing is read, nothing was received, and the octets are
+    /// the header. Gives up the frame.
+    fn fault(&mut self, fault: Fault, stopped: Option<Stopped>, octets: &[u8])
+        ensures stands { (was : List ℕ) (t : List Begun) → (begins self.old was t)
+            ⊎ (stands self.old was t) → stands self.new was [] }
+        ensures faulty { (was : List ℕ) (t : List Begun)
+            → ToldBy (begins self.old was) (stands self.old was) stopped t → (p : KindSet)
+            (limit : ℕ) (front : List ℕ) (size : ℕ)
+            → IsRefusedIn p limit front size t octets.now fault → IsStopped stopped t fault.reason
+            → faulty self.new was t octets.now fault };
 
     /// Forgets what was received of an unfinished message.
     fn give_up(&mut self)
         ensures { (was : List ℕ) (t : List Begun) → (begins self.old was t)
             ⊎ (stands self.old was t) → stands self.new was [] };
+}
+
+/// Hands a fault on. It is a call, so that the readers of frames stay small enough to be inlined.
+#[inline(never)]
+pub(crate) fn hand<L: Listener>(
+    listener: &mut L,
+    fault: Fault,
+    stopped: Option<Stopped>,
+    octets: &[u8],
+)
+    ensures stands { (was : List ℕ) (t : List Begun) → (L.begins listener.old was t)
+        ⊎ (L.stands listener.old was t) → L.stands listener.new was [] }
+    ensures faulty { (was : List ℕ) (t : List Begun)
+        → ToldBy (L.begins listener.old was) (L.stands listener.old was) stopped t → (p : KindSet)
+        (limit : ℕ) (front : List ℕ) (size : ℕ)
+        → IsRefusedIn p limit front size t octets.now fault → IsStopped stopped t fault.reason
+        → L.faulty listener.new was t octets.now fault }
+{
+    listener.fault(fault, stopped, octets);
 }

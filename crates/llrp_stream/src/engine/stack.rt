@@ -1,6 +1,6 @@
 //! An open node, as the engine keeps it.
 
-ghost use Rattle.std.specs.Prelude.{◌≡◌, ◌<◌, ◌≤◌, IfErr, IfOk, IfSome, Err, Ok, Some};
+ghost use Rattle.std.specs.Prelude.{◌≡◌, ◌<◌, ◌≤◌, IfErr, IfOk, IfSome, Err, Ok, Some, length};
 ghost use Rattle.llrp_schema.specs.declared.kinds.Kind.TheVariants.{Message};
 ghost use Rattle.llrp_schema.specs.declared.kinds.MsgKind.TheVariants.{Keepalive};
 ghost use Rattle.llrp_schema.specs.Schema.{groups_of, set_of_kind, tlv_in, tv_in};
@@ -10,7 +10,7 @@ ghost use Rattle.llrp_tree.specs.declared.TheConstants.{MAX_LIMIT};
 ghost use Rattle.llrp_tree.specs.Tree.{Forest, none};
 ghost use Rattle.llrp_tree.specs.OpenTree.{is_enough};
 ghost use Rattle.llrp_stream.specs.Calls.Reading.{AreSeen};
-ghost use Rattle.llrp_stream.specs.Private.Reading.{HeadIs, PlacesKind};
+ghost use Rattle.llrp_stream.specs.Private.Reading.{HasHead, HeadIs, PlacesKind};
 
 use crate::engine::body_reader::bad;
 use llrp_schema::{
@@ -21,12 +21,12 @@ use llrp_tree::{FrameErr, MAX_DEPTH, Reason};
 
 /// An open node: a message or parameter that has begun.
 #[derive(Clone, Copy)]
-pub(crate) struct StackNode {
-    pub(crate) kind: Kind,
+pub struct StackNode {
+    pub kind: Kind,
     /// The octet of the frame at which it stops.
-    pub(crate) stop: u32,
+    pub stop: u32,
     /// The groups that have a child.
-    pub(crate) seen: Seen,
+    pub seen: Seen,
 }
 
 impl Default for StackNode {
@@ -166,7 +166,8 @@ pub(crate) fn child_head(
 ) -> Result<Child, FrameErr>
     requires before { at < stop }
     requires small { stop ≤ MAX_LIMIT }
-    ensures { HeadIs parent seen.bits level at stop octets.now result }
+    ensures says { HeadIs parent seen.bits level at stop octets.now result }
+    ensures there { IfErr result (λ error. HasHead parent at stop octets.now) }
 {
     let bit = 8 * at;
     if llrp_schema::groups(parent).len() == 0 {
@@ -232,6 +233,7 @@ pub(crate) fn known_head(
         octets.now (Ok (Long (record { kind = kind; seen = head.0 }) head.1)))) }
     ensures fails { IfErr result (λ error. HeadIs parent seen.bits level at stop octets.now
         (Err error)) }
+    ensures there { IfErr result (λ error. 4 ≤ length octets.now) }
 {
     if octets.len() < 4 || stop - at < 4 {
         return Ok(None);

@@ -1,6 +1,6 @@
 //! Reads the tail of a node, which comes in pieces.
 
-ghost use Rattle.std.specs.Prelude.{◌≡◌, ◌≢◌, ◌+◌, ◌*◌, ◌<◌, ◌≤◌, ℕ, Bool, List, [], ◌∷◌, ◌++◌, not, length, drop, take, true, false};
+ghost use Rattle.std.specs.Prelude.{◌≡◌, ◌≢◌, ◌+◌, ◌*◌, ◌<◌, ◌≤◌, ℕ, Bool, IfErr, List, [], ◌∷◌, ◌++◌, not, length, drop, take, true, false};
 ghost use Rattle.tag_bits.specs.Digits.{digits_of_bytes};
 ghost use Rattle.llrp_schema.specs.Schema.{fields_of, tail_of};
 ghost use Rattle.llrp_schema.specs.declared.kinds.Tail.TheVariants.{Words, Text, Bits};
@@ -39,9 +39,10 @@ pub(crate) fn is_absent(form: Tail) -> bool
 fn words_counted(octets: &[u8], at: usize, stop: usize) -> Result<Option<TailSize>, FrameErr>
     requires before { at ≤ stop }
     requires small { stop ≤ MAX_LIMIT }
-    ensures { (fields : List ℕ) (later : List Bool)
+    ensures says { (fields : List ℕ) (later : List Bool)
         → CountSays Words fields (8 * at) (8 * stop) (digits_of_bytes octets.now ++ later)
         octets.now result }
+    ensures there { IfErr result (λ error. at + 2 ≤ stop → 2 ≤ length octets.now) }
 {
     if stop - at < 2 {
         return Err(bad(8 * at, Reason::Short));
@@ -63,9 +64,10 @@ fn words_counted(octets: &[u8], at: usize, stop: usize) -> Result<Option<TailSiz
 fn text_counted(octets: &[u8], at: usize, stop: usize) -> Result<Option<TailSize>, FrameErr>
     requires before { at ≤ stop }
     requires small { stop ≤ MAX_LIMIT }
-    ensures { (fields : List ℕ) (later : List Bool)
+    ensures says { (fields : List ℕ) (later : List Bool)
         → CountSays Text fields (8 * at) (8 * stop) (digits_of_bytes octets.now ++ later) octets.now
         result }
+    ensures there { IfErr result (λ error. at + 2 ≤ stop → 2 ≤ length octets.now) }
 {
     if stop - at < 2 {
         return Err(bad(8 * at, Reason::Short));
@@ -114,7 +116,9 @@ fn counted(
     requires before { at ≤ stop }
     requires small { stop ≤ MAX_LIMIT }
     requires has { has_tail form ≡ true }
-    ensures { Counts form known at stop octets.now result }
+    ensures says { Counts form known at stop octets.now result }
+    ensures there { IfErr result (λ error. form ≢ Bits → at + 2 ≤ stop
+        → 2 ≤ length octets.now) }
 {
     match form {
         Tail::Words => words_counted(octets, at, stop),

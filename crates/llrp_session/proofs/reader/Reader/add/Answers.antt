@@ -19,4 +19,4 @@ invariant_of-self-2 c =
     let t = ap (λ (s : RoSpec). s.octets) taken in
     let l = ap (λ (r : Machine). r.limit) c.self.view_is in
     let m = ap (λ (r : Machine). octets_of r.table) c.self.view_is in
-    record { version = kept.version; limit = kept.limit; octets = let most = kept.octets in omega (arith, fits, most); reports = kept.reports; few = kept.few }
+    record { version = kept.version; least = kept.least; limit = kept.limit; octets = let most = kept.octets in omega (arith, fits, most); reports = kept.reports; few = kept.few }

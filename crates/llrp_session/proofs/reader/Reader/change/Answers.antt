@@ -9,4 +9,4 @@ invariant_of-self c =
     let kept = c.self.invariant in
     let h = octets-change (changing c.args.change) c.self.inside.table.items in
     let e = ap octets_of c.change.ensures in
-    record { version = kept.version; limit = kept.limit; octets = let most = kept.octets in omega (arith, most); reports = kept.reports; few = kept.few }
+    record { version = kept.version; least = kept.least; limit = kept.limit; octets = let most = kept.octets in omega (arith, most); reports = kept.reports; few = kept.few }

@@ -8,4 +8,4 @@ invariant_of-self-2 c =
     let kept = c.self.invariant in
     let items = c.in_ok-push.ensures.items in
     let room = subst (λ (r : Machine). length r.held < 64) (sym c.self.view_is) c.requires.room in
-    record { version = kept.version; limit = kept.limit; octets = kept.octets; reports = rw items (AreReports-append _ _ kept.reports c.requires.report); few = rw items (rw length-append (omega arith)) }
+    record { version = kept.version; least = kept.least; limit = kept.limit; octets = kept.octets; reports = rw items (AreReports-append _ _ kept.reports c.requires.report); few = rw items (rw length-append (omega arith)) }

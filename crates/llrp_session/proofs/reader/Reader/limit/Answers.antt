@@ -1,5 +1,5 @@
 use Rattle.std.proofs.Common.{rules}
 use Rattle.llrp_session.proofs.reader.Reader.limit.Goals as goal
 
-pub returns : goal.returns
-returns c = search rules
+pub returns-clause-limit : goal.returns-clause-limit
+returns-clause-limit c = search rules

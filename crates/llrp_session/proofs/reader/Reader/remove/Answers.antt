@@ -8,4 +8,4 @@ invariant_of-self c =
     let kept = c.self.invariant in
     let h = octets-without c.args.n c.self.inside.table.items in
     let e = ap octets_of c.remove.ensures in
-    record { version = kept.version; limit = kept.limit; octets = let most = kept.octets in omega (arith, most); reports = kept.reports; few = kept.few }
+    record { version = kept.version; least = kept.least; limit = kept.limit; octets = let most = kept.octets in omega (arith, most); reports = kept.reports; few = kept.few }

@@ -1,4 +1,4 @@
-use Rattle.std.proofs.Common.{◌≡◌, inr, ℕ, ◌+◌, ◌*◌, ◌<◌, Bool, List, [], ◌∷◌, ◌++◌, Ok, refl, sym, subst, arith, length}
+use Rattle.std.proofs.Common.{◌≡◌, ℕ, ◌+◌, ◌*◌, ◌<◌, Bool, List, [], ◌∷◌, ◌++◌, Ok, refl, sym, subst, arith, length}
 use Rattle.std.proofs.lemmas.Result.{err_from_is_err_and}
 use Rattle.tag_bits.specs.Digits.{digits_of_bytes}
 use Rattle.llrp_schema.specs.Schema.{groups_of, set_of_kind}
@@ -15,6 +15,7 @@ use Rattle.llrp_schema.specs.declared.kinds.ParamKind.{ParamKind}
 use Rattle.llrp_stream.specs.declared.engine.stack.Child.TheVariants as child
 use Rattle.llrp_stream.proofs.Bounds.{stop_within}
 use Rattle.llrp_stream.proofs.ChildPart.{outer_length, head_tells, short_reaches, long_reaches, child_undecided}
+use Rattle.llrp_stream.proofs.FaultTrees.{head_no_text}
 use Rattle.llrp_stream.proofs.MoreOctets.{fails_with}
 use Rattle.llrp_stream.proofs.SeenLemmas.{seen_are}
 use Rattle.llrp_stream.specs.declared.engine.body_reader.Stage.TheVariants as stage
@@ -28,8 +29,8 @@ returns-in_err-child g c = λ was front b outer rd told d.
     let p = err_from_is_err_and c.from_residual.result c.from_residual.ensures.1 in
     let few = outer_length c.args.self.now front b outer rd c.requires.stage in
     let is : c.len.result + 1 ≡ length outer + 1 = omega (arith, few, c.len.ensures.value) in
-    rw (p.1, p.2) (fails_with _ _ _ front c.args.self.now.octets c.in_err-child.field-0.0 (head_tells c.args.self.now front b outer rd c.requires.stage c.args.octets.now d c.requires.room c.requires.long c.in_err-child.field-0.0
-    (λ later. subst (λ (n : ℕ). HeadFails (set_of_kind c.args.self.now.top.kind) (groups_of c.args.self.now.top.kind) b.children n (8 * c.args.self.now.at) (8 * c.args.self.now.top.stop) (digits_of_bytes c.args.octets.now ++ later) c.in_err-child.field-0.0) is (c.in_err-child.ensures b.children later (seen_are c.args.self.now front b outer rd)))) (inr told))
+    rw (p.1, p.2) (fails_with _ _ c.args.self.now front b outer c.in_err-child.field-0.0 rd (head_tells c.args.self.now front b outer rd c.requires.stage c.args.octets.now d c.requires.room c.requires.long c.in_err-child.field-0.0
+    (λ later. subst (λ (n : ℕ). HeadFails (set_of_kind c.args.self.now.top.kind) (groups_of c.args.self.now.top.kind) b.children n (8 * c.args.self.now.at) (8 * c.args.self.now.top.stop) (digits_of_bytes c.args.octets.now ++ later) c.in_err-child.field-0.0) is (c.in_err-child.ensures.says b.children later (seen_are c.args.self.now front b outer rd))) c.in_err-child.ensures.there) _ c.requires.stage told (head_no_text _ _ _ _ _ _ _ _ (c.in_err-child.ensures.says b.children [] (seen_are c.args.self.now front b outer rd))))
 
 says : (r : Rattle.llrp_stream.specs.declared.engine.body_reader.BodyReader.BodyReader) (os : List ℕ) (later : List Bool) (lv : ℕ) (cs : Forest) (x y : Child) → x ≡ y
     → HeadSays (set_of_kind r.top.kind) (groups_of r.top.kind) cs lv (8 * r.at) (8 * r.top.stop) (digits_of_bytes os ++ later) os (Ok x) → HeadSays (set_of_kind r.top.kind) (groups_of r.top.kind) cs lv (8 * r.at) (8 * r.top.stop) (digits_of_bytes os ++ later) os (Ok y)
@@ -47,37 +48,37 @@ enter-requires-in-Long-clause-told g c = let w = c.requires.some in (w.4, w.1 �
 pub enter-requires-clause-few : goal.enter-requires-clause-few
 enter-requires-clause-few g c =
     let w = c.requires.some in
-    let h = says c.args.self.now c.args.octets.now [] (c.len.result + 1) w.1.children c.in_ok-child.child (child.Short c.in-Short.placed) c.in-Short.is (c.in_ok-child.ensures w.1.children [] (seen_are c.args.self.now w.0 w.1 w.2 w.3)) in
+    let h = says c.args.self.now c.args.octets.now [] (c.len.result + 1) w.1.children c.in_ok-child.child (child.Short c.in-Short.placed) c.in-Short.is (c.in_ok-child.ensures.says w.1.children [] (seen_are c.args.self.now w.0 w.1 w.2 w.3)) in
     omega (arith, h.3.deep, c.len.ensures.value)
 
 pub overflow_cast-size : goal.overflow_cast-size
 overflow_cast-size g c =
     let w = c.requires.some in
-    let h = says c.args.self.now c.args.octets.now [] (c.len.result + 1) w.1.children c.in_ok-child.child (child.Long c.in-Long.placed c.in-Long.size) c.in-Long.is (c.in_ok-child.ensures w.1.children [] (seen_are c.args.self.now w.0 w.1 w.2 w.3)) in
+    let h = says c.args.self.now c.args.octets.now [] (c.len.result + 1) w.1.children c.in_ok-child.child (child.Long c.in-Long.placed c.in-Long.size) c.in-Long.is (c.in_ok-child.ensures.says w.1.children [] (seen_are c.args.self.now w.0 w.1 w.2 w.3)) in
     omega (arith, h.3.most, c.requires.stop)
 
 pub overflow_add-self : goal.overflow_add-self
 overflow_add-self g c =
     let w = c.requires.some in
-    let h = says c.args.self.now c.args.octets.now [] (c.len.result + 1) w.1.children c.in_ok-child.child (child.Long c.in-Long.placed c.in-Long.size) c.in-Long.is (c.in_ok-child.ensures w.1.children [] (seen_are c.args.self.now w.0 w.1 w.2 w.3)) in
+    let h = says c.args.self.now c.args.octets.now [] (c.len.result + 1) w.1.children c.in_ok-child.child (child.Long c.in-Long.placed c.in-Long.size) c.in-Long.is (c.in_ok-child.ensures.says w.1.children [] (seen_are c.args.self.now w.0 w.1 w.2 w.3)) in
     omega (arith, h.3.most, c.requires.stop)
 
 pub enter-requires-in-Long-clause-few : goal.enter-requires-in-Long-clause-few
 enter-requires-in-Long-clause-few g c =
     let w = c.requires.some in
-    let h = says c.args.self.now c.args.octets.now [] (c.len.result + 1) w.1.children c.in_ok-child.child (child.Long c.in-Long.placed c.in-Long.size) c.in-Long.is (c.in_ok-child.ensures w.1.children [] (seen_are c.args.self.now w.0 w.1 w.2 w.3)) in
+    let h = says c.args.self.now c.args.octets.now [] (c.len.result + 1) w.1.children c.in_ok-child.child (child.Long c.in-Long.placed c.in-Long.size) c.in-Long.is (c.in_ok-child.ensures.says w.1.children [] (seen_are c.args.self.now w.0 w.1 w.2 w.3)) in
     omega (arith, h.3.placed.deep, c.len.ensures.value)
 
 pub enter-requires-in-Long-clause-fits : goal.enter-requires-in-Long-clause-fits
 enter-requires-in-Long-clause-fits g c =
     let w = c.requires.some in
-    let h = says c.args.self.now c.args.octets.now [] (c.len.result + 1) w.1.children c.in_ok-child.child (child.Long c.in-Long.placed c.in-Long.size) c.in-Long.is (c.in_ok-child.ensures w.1.children [] (seen_are c.args.self.now w.0 w.1 w.2 w.3)) in
+    let h = says c.args.self.now c.args.octets.now [] (c.len.result + 1) w.1.children c.in_ok-child.child (child.Long c.in-Long.placed c.in-Long.size) c.in-Long.is (c.in_ok-child.ensures.says w.1.children [] (seen_are c.args.self.now w.0 w.1 w.2 w.3)) in
     omega (arith, h.3.room, c.requires.stop)
 
 pub returns-in-Unfinished : goal.returns-in-Unfinished
 returns-in-Unfinished g c = λ was front b outer rd told d.
     let r = c.args.self.now in
-    let f = λ (later : List Bool). says r c.args.octets.now later (c.len.result + 1) b.children c.in_ok-child.child child.Unfinished c.in-Unfinished.is (c.in_ok-child.ensures b.children later (seen_are r front b outer rd)) in
+    let f = λ (later : List Bool). says r c.args.octets.now later (c.len.result + 1) b.children c.in_ok-child.child child.Unfinished c.in-Unfinished.is (c.in_ok-child.ensures.says b.children later (seen_are r front b outer rd)) in
     let h = f [] in
     record {
       few = omega (arith, h.0);
@@ -95,7 +96,7 @@ returns-in-Short g c = λ was front b outer rd told d.
     let r = c.args.self.now in
     let few = outer_length r front b outer rd c.requires.stage in
     let is : c.len.result + 1 ≡ length outer + 1 = omega (arith, few, c.len.ensures.value) in
-    let f = λ (later : List Bool). says r c.args.octets.now later (length outer + 1) b.children c.in_ok-child.child (child.Short c.in-Short.placed) c.in-Short.is (subst (λ (n : ℕ). HeadSays (set_of_kind r.top.kind) (groups_of r.top.kind) b.children n (8 * r.at) (8 * r.top.stop) (digits_of_bytes c.args.octets.now ++ later) c.args.octets.now (Ok c.in_ok-child.child)) is (c.in_ok-child.ensures b.children later (seen_are r front b outer rd))) in
+    let f = λ (later : List Bool). says r c.args.octets.now later (length outer + 1) b.children c.in_ok-child.child (child.Short c.in-Short.placed) c.in-Short.is (subst (λ (n : ℕ). HeadSays (set_of_kind r.top.kind) (groups_of r.top.kind) b.children n (8 * r.at) (8 * r.top.stop) (digits_of_bytes c.args.octets.now ++ later) c.args.octets.now (Ok c.in_ok-child.child)) is (c.in_ok-child.ensures.says b.children later (seen_are r front b outer rd))) in
     let k : ParamKind = c.in-Short.placed.kind in
     let rc = short_reaches r front b outer rd c.requires.stage c.args.octets.now d c.requires.room c.requires.long k (f []).0 (λ later. ((f later).2, (f later).3)) in
     let place : 8 * r.at + 8 ≡ 8 * (r.at + 1) = omega arith in
@@ -109,7 +110,7 @@ returns-in-Long g c = λ was front b outer rd told d.
     let is : c.len.result + 1 ≡ length outer + 1 = omega (arith, few, c.len.ensures.value) in
     let k : ParamKind = c.in-Long.placed.kind in
     let n : ℕ = c.in-Long.size in
-    let f = λ (later : List Bool). says r c.args.octets.now later (length outer + 1) b.children c.in_ok-child.child (child.Long c.in-Long.placed c.in-Long.size) c.in-Long.is (subst (λ (m : ℕ). HeadSays (set_of_kind r.top.kind) (groups_of r.top.kind) b.children m (8 * r.at) (8 * r.top.stop) (digits_of_bytes c.args.octets.now ++ later) c.args.octets.now (Ok c.in_ok-child.child)) is (c.in_ok-child.ensures b.children later (seen_are r front b outer rd))) in
+    let f = λ (later : List Bool). says r c.args.octets.now later (length outer + 1) b.children c.in_ok-child.child (child.Long c.in-Long.placed c.in-Long.size) c.in-Long.is (subst (λ (m : ℕ). HeadSays (set_of_kind r.top.kind) (groups_of r.top.kind) b.children m (8 * r.at) (8 * r.top.stop) (digits_of_bytes c.args.octets.now ++ later) c.args.octets.now (Ok c.in_ok-child.child)) is (c.in_ok-child.ensures.says b.children later (seen_are r front b outer rd))) in
     let rc = long_reaches r front b outer rd c.requires.stage c.args.octets.now d c.requires.room c.requires.long k n (f []).0 (λ later. (f later).3) in
     let place : 8 * r.at + 32 ≡ 8 * (r.at + 4) = omega arith in
     let end : 8 * r.at + 8 * n ≡ 8 * (r.at + n) = omega arith in

@@ -1,4 +1,4 @@
-use Rattle.std.proofs.Common.{◌≡◌, inr, ℕ, ◌+◌, ◌*◌, List, [], ◌∷◌, Ok, refl, subst, arith}
+use Rattle.std.proofs.Common.{◌≡◌, inl, inr, ℕ, ◌+◌, ◌*◌, List, [], ◌∷◌, Ok, refl, subst, arith}
 use Rattle.std.proofs.lemmas.Result.{err_from_is_err_and}
 use Rattle.llrp_tree.specs.Spelling.{tlv}
 use Rattle.llrp_tree.specs.Calls.Standing.{leading}
@@ -8,6 +8,7 @@ use Rattle.llrp_stream.specs.Calls.Front.{Reaches}
 use Rattle.llrp_stream.specs.Private.Reading.{Steps}
 use Rattle.llrp_stream.proofs.BareLemmas.{fails_here, seen_at, known_says, says_long}
 use Rattle.llrp_stream.proofs.ChildPart.{head_tells, outer_length, long_reaches}
+use Rattle.llrp_stream.proofs.FaultTrees.{head_no_text}
 use Rattle.llrp_stream.proofs.MoreOctets.{fails_with}
 use Rattle.llrp_stream.proofs.engine.body_reader.BodyReader.begin_kind.Goals as goal
 
@@ -59,5 +60,6 @@ returns-in_err-found-clause-fails g c =
     let p = err_from_is_err_and c.from_residual.result c.from_residual.ensures.1 in
     rw (p.1, p.2) (λ was front b outer rd told d. (
     let r : BodyReader = c.args.self.now in
-    fails_with _ _ _ front r.octets c.in_err-found.field-0.0 (head_tells r front b outer rd c.requires.stage c.args.octets.now d c.requires.room c.requires.long c.in_err-found.field-0.0
-    (fails_here r front b outer rd c.args.parent 2 c.requires.parent (omega (arith, c.requires.second)) c.requires.stage c.args.octets.now c.in_err-found.field-0.0 c.in_err-found.ensures.fails)) (inr told)))
+    let here = (fails_here r front b outer rd c.args.parent 2 c.requires.parent (omega (arith, c.requires.second)) c.requires.stage c.args.octets.now c.in_err-found.field-0.0 c.in_err-found.ensures.fails) in
+    fails_with _ _ r front b outer c.in_err-found.field-0.0 rd (head_tells r front b outer rd c.requires.stage c.args.octets.now d c.requires.room c.requires.long c.in_err-found.field-0.0
+    here (inr (omega (arith, c.in_err-found.ensures.there), inl c.in_err-found.ensures.there))) _ c.requires.stage told (head_no_text _ _ _ _ _ _ _ _ (here []))))

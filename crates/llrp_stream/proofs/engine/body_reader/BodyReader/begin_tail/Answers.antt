@@ -1,4 +1,4 @@
-use Rattle.std.proofs.Common.{◌≡◌, ◌≢◌, inl, ℕ, ◌+◌, ◌-◌, ◌*◌, ◌<◌, ◌≤◌, Bool, List, [], ◌∷◌, ◌++◌, length, Option, Some, None, Ok, refl, sym, ap, subst, ◌∙◌, arith, length-drop}
+use Rattle.std.proofs.Common.{◌≡◌, ◌≢◌, ℕ, ◌+◌, ◌-◌, ◌*◌, ◌<◌, ◌≤◌, Bool, List, [], ◌∷◌, ◌++◌, length, Option, Some, None, Ok, refl, sym, ap, subst, ◌∙◌, arith, length-drop}
 use Rattle.std.specs.Prelude.{unwrap_or}
 use Rattle.std.proofs.lemmas.Result.{err_from_is_err_and}
 use Rattle.llrp_schema.specs.declared.kinds.Tail.{Tail}
@@ -47,8 +47,8 @@ returns-in_err-found g c = λ was front b outer rd told d.
     let p = err_from_is_err_and c.from_residual.result c.from_residual.ensures.1 in
     let e : FrameErr = c.in_err-found.field-0.0 in
     let k = known r front b outer c.args.form rd c.requires.stage c.requires.form c.requires.has in
-    rw (p.1, p.2) (fails_with _ (g.L.Listener.begins c.args.listener.now was) (g.L.Listener.stands c.args.listener.now was) front r.octets e
-    (count_tells r front b outer c.args.form rd c.requires.stage c.requires.form c.requires.has c.args.octets.now e d (λ later. c.in_err-found.ensures (plain_values (rules b) b.fields) later k)) (inl told))
+    rw (p.1, p.2) (fails_with (g.L.Listener.begins c.args.listener.now was) (g.L.Listener.stands c.args.listener.now was) r front b outer e rd
+    (count_tells r front b outer c.args.form rd c.requires.stage c.requires.form c.requires.has c.args.octets.now e d (λ later. c.in_err-found.ensures.says (plain_values (rules b) b.fields) later k) c.in_err-found.ensures.there) _ c.requires.stage told tt)
 
 pub returns-in_default : goal.returns-in_default
 returns-in_default g c = λ was front b outer rd told d.
@@ -56,7 +56,7 @@ returns-in_default g c = λ was front b outer rd told d.
     let fields : List ℕ = plain_values (rules b) b.fields in
     let k = known r front b outer c.args.form rd c.requires.stage c.requires.form c.requires.has in
     let is : c.in_ok-found.found ≡ None = c.in_default.is in
-    let h = none_says c.args.form fields (8 * r.at) (8 * r.top.stop) (digits_of_bytes c.args.octets.now ++ []) c.args.octets.now c.in_ok-found.found is (c.in_ok-found.ensures fields [] k) in
+    let h = none_says c.args.form fields (8 * r.at) (8 * r.top.stop) (digits_of_bytes c.args.octets.now ++ []) c.args.octets.now c.in_ok-found.found is (c.in_ok-found.ensures.says fields [] k) in
     let s = stop_within r front b outer rd in
     record {
       few = omega (arith, h.0);
@@ -74,7 +74,7 @@ overflow_add-self g c =
     let r : BodyReader = c.args.self.now in
     let fields : List ℕ = plain_values (rules w.1) w.1.fields in
     let k = known r w.0 w.1 w.2 c.args.form w.3 c.requires.stage c.requires.form c.requires.has in
-    let h = some_says c.args.form fields (8 * r.at) (8 * r.top.stop) (digits_of_bytes c.args.octets.now ++ []) c.args.octets.now c.in_ok-found.found c.in-Some.size c.in-Some.is (c.in_ok-found.ensures fields [] k) in
+    let h = some_says c.args.form fields (8 * r.at) (8 * r.top.stop) (digits_of_bytes c.args.octets.now ++ []) c.args.octets.now c.in_ok-found.found c.in-Some.size c.in-Some.is (c.in_ok-found.ensures.says fields [] k) in
     omega (arith, h.3, c.requires.stop)
 
 pub overflow_cast-result : goal.overflow_cast-result
@@ -83,7 +83,7 @@ overflow_cast-result g c =
     let r : BodyReader = c.args.self.now in
     let fields : List ℕ = plain_values (rules w.1) w.1.fields in
     let k = known r w.0 w.1 w.2 c.args.form w.3 c.requires.stage c.requires.form c.requires.has in
-    let h = some_says c.args.form fields (8 * r.at) (8 * r.top.stop) (digits_of_bytes c.args.octets.now ++ []) c.args.octets.now c.in_ok-found.found c.in-Some.size c.in-Some.is (c.in_ok-found.ensures fields [] k) in
+    let h = some_says c.args.form fields (8 * r.at) (8 * r.top.stop) (digits_of_bytes c.args.octets.now ++ []) c.args.octets.now c.in_ok-found.found c.in-Some.size c.in-Some.is (c.in_ok-found.ensures.says fields [] k) in
     omega (arith, h.3, c.requires.stop)
 
 pub returns : goal.returns
@@ -91,7 +91,7 @@ returns g c = λ was front b outer rd told d.
     let r : BodyReader = c.args.self.now in
     let fields : List ℕ = plain_values (rules b) b.fields in
     let k = known r front b outer c.args.form rd c.requires.stage c.requires.form c.requires.has in
-    let f = λ (later : List Bool). some_says c.args.form fields (8 * r.at) (8 * r.top.stop) (digits_of_bytes c.args.octets.now ++ later) c.args.octets.now c.in_ok-found.found c.in-Some.size c.in-Some.is (c.in_ok-found.ensures fields later k) in
+    let f = λ (later : List Bool). some_says c.args.form fields (8 * r.at) (8 * r.top.stop) (digits_of_bytes c.args.octets.now ++ later) c.args.octets.now c.in_ok-found.found c.in-Some.size c.in-Some.is (c.in_ok-found.ensures.says fields later k) in
     let h = f [] in
     let count : ℕ = c.in-Some.size.count in
     let left : ℕ = c.in-Some.size.octets in

@@ -57,7 +57,7 @@ returns-in_err-used g c = λ was front b outer rd told d.
     (λ lt. c.in_ok-head.ensures.moves lt was front b outer rd told d)
     (λ z. (let e = c.in_ok-head.ensures.none (ap (λ (n : ℕ). Ok n) z) in (e.0, subst (λ l. Are (g.L.Listener.begins l was) (g.L.Listener.stands l was) c.args.self.now front) (sym e.1) (are_here _ _ c.args.self.now front b outer rd c.requires.stage told))))) in
     let p = err_from_is_err_and c.from_residual-in_err-used.result c.from_residual-in_err-used.ensures.1 in
-    rw (p.1, p.2) (subst (λ (e : FrameErr). FailsWith (g.L.Listener.begins c.values.new.listener was) (g.L.Listener.stands c.values.new.listener was) c.args.self.now.set front c.args.self.now.octets e) (sym (c.in_err-used.ensures.takes was front h.are (behind_on front c.args.octets.now c.args.self.now.at c.in_ok-head.head c.begin_known.new.self.at d h.place ∙ sym c.split_at.ensures.back))) tt)
+    rw (p.1, p.2) (subst (λ (e : FrameErr). FailsWith (g.L.Listener.begins c.values.new.listener was) (g.L.Listener.stands c.values.new.listener was) c.values.new.self c.args.self.now.at c.args.self.now.set front c.args.self.now.octets e) (sym (c.in_err-used.ensures.takes was front h.are (behind_on front c.args.octets.now c.args.self.now.at c.in_ok-head.head c.begin_known.new.self.at d h.place ∙ sym c.split_at.ensures.back))) tt)
 
 pub overflow_add-all : goal.overflow_add-all
 overflow_add-all g c =

@@ -1,5 +1,5 @@
-use Rattle.std.proofs.Common.{zero, suc, ◌≡◌, ℕ, ◌+◌, ◌-◌, ◌*◌, ◌<◌, true, false, inr, List, [], ◌∷◌, Option, refl, sym, ap, ◌∙◌, subst, arith, length}
-use Rattle.std.specs.Prelude.{unwrap_or}
+use Rattle.std.proofs.Common.{zero, suc, ◌≡◌, ℕ, ◌+◌, ◌-◌, ◌*◌, ◌<◌, true, false, List, [], ◌∷◌, Option, refl, sym, ap, ◌∙◌, subst, arith, length}
+use Rattle.std.specs.Prelude.{nat_le, unwrap_or}
 use Rattle.llrp_schema.specs.declared.kinds.Kind.{Kind}
 use Rattle.llrp_schema.specs.declared.kinds.Kind.TheVariants.{Parameter}
 use Rattle.llrp_schema.specs.declared.kinds.ParamKind.{ParamKind}
@@ -8,7 +8,11 @@ use Rattle.llrp_tree.specs.Tree.{Forest, and}
 use Rattle.llrp_tree.specs.Lawful.{AllLawful, IsLawfulTree}
 use Rattle.llrp_tree.specs.Spelling.{Head, message, tlv, tv}
 use Rattle.llrp_tree.specs.OpenTree.{Begun, kind_of_head, groups, is_enough, plain_values, IsHead, IsOpenTree}
+use Rattle.llrp_tree.specs.FirstFault.{has_ended}
 use Rattle.llrp_tree.specs.Calls.Standing.{begin_node}
+use Rattle.llrp_tree.specs.declared.fault.FrameErr.{FrameErr}
+use Rattle.llrp_tree.specs.declared.fault.Reason.TheVariants.{Missing, Utf8}
+use Rattle.llrp_stream.specs.Private.Front.{IsOfNoText}
 use Rattle.llrp_stream.specs.Calls.Front.{Reaches}
 use Rattle.llrp_stream.specs.Calls.Received.{with_child, with_closed}
 use Rattle.llrp_stream.specs.Calls.Reading.{IsResting, IsAtStage, Told}
@@ -16,6 +20,7 @@ use Rattle.llrp_stream.specs.Private.Reading.{rank, work}
 use Rattle.llrp_stream.specs.declared.engine.body_reader.BodyReader.{BodyReader}
 use Rattle.llrp_stream.specs.declared.engine.body_reader.Stage.{Stage}
 use Rattle.llrp_stream.proofs.SeenLemmas.{seen_are, seen_closed}
+use Rattle.llrp_stream.proofs.Bounds.{covered_length}
 use Rattle.llrp_stream.proofs.MoreOctets.{fails_with}
 use Rattle.llrp_stream.proofs.ChildPart.{popped, none_left, resting, missing_tell, over_is, closed_reaches, parent_due}
 use Rattle.llrp_stream.proofs.engine.body_reader.BodyReader.close.Goals as goal
@@ -46,8 +51,8 @@ pub returns-then-not-enough : goal.returns-then-not-enough
 returns-then-not-enough g c = λ os was front b outer rd told d.
     let r = c.args.self.now in
     let few : c.is_enough-enough.result ≡ false = cc (c.if-not-enough.true) in
-    fails_with _ _ _ front r.octets c.bad.result (missing_tell r front b outer rd c.requires.stage c.requires.over c.bad.result
-    (ap (λ (k : Kind). is_enough (groups_of k) b.children) rd.level.kind ∙ sym (c.is_enough-enough.ensures b.children (seen_are r front b outer rd)) ∙ few) c.bad.ensures) (inr told)
+    fails_with _ _ r front b outer c.bad.result rd (missing_tell r front b outer rd c.requires.stage c.requires.over c.bad.result
+    (ap (λ (k : Kind). is_enough (groups_of k) b.children) rd.level.kind ∙ sym (c.is_enough-enough.ensures b.children (seen_are r front b outer rd)) ∙ few) c.bad.ensures) _ c.requires.stage told (subst (λ (e : FrameErr). IsOfNoText e) (sym c.bad.ensures) (λ (z : Missing ≡ Utf8). cc))
 
 lawful_in : (p : Begun) (outer : List Begun) → IsOpenTree (p ∷ outer) → AllLawful p.children
 unfolding IsOpenTree
@@ -108,7 +113,8 @@ returns g c = λ os was front b outer rd told d.
     let node : Begun = begin_node p.parent.head p.parent.stop p.parent.fields p.parent.tail cs in
     let now : BodyReader = record { set = r.set; octets = r.octets; at = r.at; bit = r.bit; first = r.first; stage = r.stage; top = c.in-Some.parent; outer = c.pop.new.self } in
     let rest : IsResting now front node p.others = record { ready = parent_due r front b outer rd c.requires.stage c.requires.over p.parent p.others cs p.is; aligned = s.aligned; reaches = closed_reaches r front b outer rd c.requires.stage c.requires.over p.parent p.others p.is enough } in
-    let heard : g.L.Listener.stands c.close.new.self was (node ∷ p.others) = subst (λ (x : List Begun). g.L.Listener.stands c.close.new.self was (with_closed (b ∷ x))) p.is (c.in_ok-close.ensures was (b ∷ outer) told (record { node = b; outer = outer; tree_is = refl; ready = s.ready; is_open = s.reaches.is_open })) in
+    let ended = subst (λ (n : ℕ). has_ended b.head (nat_le b.stop n) ≡ true) (sym (covered_length front r.octets (b ∷ outer) (8 * r.at) s.reaches)) (over_is r front b outer rd c.requires.stage c.requires.over) in
+    let heard : g.L.Listener.stands c.close.new.self was (node ∷ p.others) = subst (λ (x : List Begun). g.L.Listener.stands c.close.new.self was (with_closed (b ∷ x))) p.is (c.in_ok-close.ensures was (b ∷ outer) told (record { node = b; outer = outer; tree_is = refl; ready = s.ready; is_open = s.reaches.is_open; ended = ended })) in
     record {
       within = omega arith;
       are = record {

@@ -1,4 +1,4 @@
-use Rattle.std.proofs.Common.{◌≡◌, ℕ, ◌+◌, ◌-◌, ◌*◌, ◌/◌, ◌%◌, ◌≤◌, ◌<◌, inl, List, [], ◌∷◌, ◌++◌, sym, ap, ◌∙◌, subst, refl, arith, length-drop, length-append, length}
+use Rattle.std.proofs.Common.{◌≡◌, ℕ, ◌+◌, ◌-◌, ◌*◌, ◌/◌, ◌%◌, ◌≤◌, ◌<◌, List, [], ◌∷◌, ◌++◌, sym, ap, ◌∙◌, subst, refl, arith, length-drop, length-append, length}
 use Rattle.std.proofs.lemmas.Result.{err_from_is_err_and}
 use Rattle.llrp_tree.specs.OpenTree.{Begun, groups}
 use Rattle.llrp_tree.specs.Calls.Standing.{begin_node, leading}
@@ -21,13 +21,13 @@ field_work r n left w one fit b o s = let e = ap (λ (x : ArrayVec StackNode). l
 
 pub returns-then-stop-at : goal.returns-then-stop-at
 returns-then-stop-at g c = λ was front b outer others rd told d nx.
-    fails_with _ _ _ front c.args.self.now.octets c.bad.result (field_all_tell c.args.self.now front b outer c.args.octets.now c.args.next (field_rule c.args.rule.now) others rd c.requires.stage d nx c.bad.result
-    (λ later. short_fails (field_rule c.args.rule.now) _ _ _ c.bad.result (omega (arith, c.if-stop-at.true)) c.bad.ensures)) (inl told)
+    fails_with _ _ c.args.self.now front b outer c.bad.result rd (field_all_tell c.args.self.now front b outer c.args.octets.now c.args.next (field_rule c.args.rule.now) others rd c.requires.stage d nx c.bad.result
+    (λ later. short_fails (field_rule c.args.rule.now) _ _ _ c.bad.result (omega (arith, c.if-stop-at.true)) c.bad.ensures) (λ room. absurd (omega (arith, c.if-stop-at.true, room)))) _ c.requires.stage told tt
 
 pub returns-in_err-value : goal.returns-in_err-value
 returns-in_err-value g c = λ was front b outer others rd told d nx.
     let p = err_from_is_err_and c.from_residual.result c.from_residual.ensures.1 in
-    rw (p.1, p.2) (fails_with _ _ _ front c.args.self.now.octets c.in_err-value.field-0.0 (field_all_tell c.args.self.now front b outer c.args.octets.now c.args.next (field_rule c.args.rule.now) others rd c.requires.stage d nx c.in_err-value.field-0.0 (λ later. c.in_err-value.ensures later)) (inl told))
+    rw (p.1, p.2) (fails_with _ _ c.args.self.now front b outer c.in_err-value.field-0.0 rd (field_all_tell c.args.self.now front b outer c.args.octets.now c.args.next (field_rule c.args.rule.now) others rd c.requires.stage d nx c.in_err-value.field-0.0 (λ later. c.in_err-value.ensures later) (λ room. omega (arith, c.if-octets-div_ceil.false, c.div_ceil.ensures))) _ c.requires.stage told tt)
 
 pub field-requires-clause-some : goal.field-requires-clause-some
 field-requires-clause-some g c =

@@ -1,4 +1,4 @@
-use Rattle.std.proofs.Common.{◌≡◌, inl, ℕ, ◌+◌, ◌-◌, ◌≤◌, true, false, List, [], ◌∷◌, ◌++◌, length, take, Some, refl, sym, ap, subst, ◌∙◌, arith, length-drop}
+use Rattle.std.proofs.Common.{◌≡◌, ℕ, ◌+◌, ◌-◌, ◌≤◌, true, false, List, [], ◌∷◌, ◌++◌, length, take, Some, refl, sym, ap, subst, ◌∙◌, arith, length-drop}
 use Rattle.std.specs.Prelude.{min, unwrap_or}
 use Rattle.std.proofs.lemmas.List.{length-take-le}
 use Rattle.llrp_schema.specs.declared.kinds.Tail.{Tail}
@@ -12,7 +12,7 @@ use Rattle.llrp_tree.proofs.OctetLemmas.{are_octets}
 use Rattle.llrp_stream.specs.declared.engine.body_reader.BodyReader.{BodyReader}
 use Rattle.llrp_stream.specs.declared.engine.body_reader.Stage.{Stage}
 use Rattle.llrp_stream.specs.declared.engine.body_reader.Stage.TheVariants as stage
-use Rattle.llrp_stream.specs.Private.Front.{TellsFor}
+use Rattle.llrp_stream.specs.Private.Front.{IsOfText, TellsFor}
 use Rattle.llrp_stream.specs.Calls.Front.{IsUndecided}
 use Rattle.llrp_stream.specs.Calls.Received.{AreWhole}
 use Rattle.llrp_stream.specs.Private.Tails.{HasWhole}
@@ -55,7 +55,7 @@ returns-then-faulty g c = λ was front b outer rd told d.
     let h : HasWhole Text near 0 = subst (λ (n : ℕ). HasWhole Text near n) zero (subst (λ (x : Tail). HasWhole x near c.whole_front-used.result) text c.whole_front-used.ensures) in
     let tells : TellsFor r.set (b ∷ outer) front r.octets c.bad.result = subst (λ (e : FrameErr). TellsFor r.set (b ∷ outer) front r.octets e) (sym c.bad.ensures)
     (text_tells c.args.left r front b outer t c.args.octets.now near d (are_octets c.args.octets.now (λ i. c.type_inv.octets i)) near_is shape c.requires.some_left (sym h) (far_of (length near) c.args.left (c.is_faulty-faulty.ensures.many faulty))) in
-    fails_with _ (g.L.Listener.begins c.args.listener.now was) (g.L.Listener.stands c.args.listener.now was) front r.octets c.bad.result tells (inl told)
+    fails_with (g.L.Listener.begins c.args.listener.now was) (g.L.Listener.stands c.args.listener.now was) r front b outer c.bad.result rd tells _ c.requires.stage told (subst (λ (e : FrameErr). IsOfText e) (sym c.bad.ensures) refl)
 
 pub returns-then-used-eq0 : goal.returns-then-used-eq0
 returns-then-used-eq0 g c = λ was front b outer rd told d.

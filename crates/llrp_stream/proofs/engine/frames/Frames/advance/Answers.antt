@@ -1,11 +1,12 @@
-use Rattle.std.proofs.Common.{subst, [], sym, ap, ◌∙◌, arith, inl, inr}
+use Rattle.std.proofs.Common.{subst, ℕ, ◌≤◌, List, [], length, sym, ap, ◌∙◌, arith, inl, inr}
 use Rattle.llrp_schema.specs.declared.kinds.KindSet.{KindSet}
 use Rattle.llrp_stream.specs.Private.Frames.{SkipsTo}
 use Rattle.llrp_stream.specs.declared.engine.body.Body.{Body}
 use Rattle.llrp_stream.specs.declared.state.State.{State}
 use Rattle.llrp_stream.specs.declared.state.State.TheVariants as state
-use Rattle.llrp_stream.specs.Calls.Frames.{is_skipped}
+use Rattle.llrp_stream.specs.Calls.Frames.{is_skipped, IsRefusedAt, Refuses}
 use Rattle.llrp_stream.proofs.FramesLemmas.{at_start, state_comes, starts_of, came_so, begun_of, start_unskipped, not_start, begins_takes, goes_on_goes, goes_on_progress, skip_takes}
+use Rattle.llrp_stream.proofs.RefusedLemmas.{skip_refused}
 use Rattle.llrp_stream.proofs.engine.frames.Frames.advance.Goals as goal
 
 pub begin_any-requires-clause-short : goal.begin_any-requires-clause-short
@@ -77,3 +78,22 @@ returns-in-Dead-clause-takes g c = λ was front k. absurd (state_comes (g.L.List
 
 pub returns-in-Dead-clause-broken : goal.returns-in-Dead-clause-broken
 returns-in-Dead-clause-broken g c = λ e. absurd (let z = sym c.in-Dead.is ∙ e in cc)
+
+pub returns-in-Between-clause-refuses : goal.returns-in-Between-clause-refuses
+returns-in-Between-clause-refuses g c = λ was front k r.
+    let q = at_start (g.L.Listener.begins c.args.listener.now was) (g.L.Listener.stands c.args.listener.now was) c.args.self.now.limit c.args.self.now.state c.args.self.now.body front c.in-Between.is k in
+    subst (λ (x : List ℕ). Refuses (g.L.Listener.faulty c.begin_any.new.listener was) c.args.self.now.body.reader.set c.args.self.now.limit x c.args.piece.now c.begin_any.new.self c.begin_any.result) q.0 (c.begin_any.ensures.refuses was q.2)
+
+pub returns-in-Reading-clause-refuses : goal.returns-in-Reading-clause-refuses
+returns-in-Reading-clause-refuses g c = λ was front k r.
+    let reads = state_comes (g.L.Listener.begins c.args.listener.now was) (g.L.Listener.stands c.args.listener.now was) c.args.self.now.limit c.args.self.now.state (state.Reading c.in-Reading.id) c.args.self.now.body front c.in-Reading.is k in
+    c.go_on.ensures.refuses was front (begun_of (g.L.Listener.begins c.args.listener.now was) (g.L.Listener.stands c.args.listener.now was) c.args.self.now.limit c.in-Reading.id c.args.self.now.body front reads)
+
+pub returns-in-Skipping-clause-refuses : goal.returns-in-Skipping-clause-refuses
+returns-in-Skipping-clause-refuses g c = λ was front k r.
+    let faulty = g.L.Listener.faulty c.args.listener.now was in
+    let set = c.args.self.now.body.reader.set in
+    let limit = c.args.self.now.limit in
+    let s = state_comes (g.L.Listener.begins c.args.listener.now was) (g.L.Listener.stands c.args.listener.now was) limit c.args.self.now.state (state.Skipping c.in-Skipping.count c.in-Skipping.header) c.args.self.now.body front c.in-Skipping.is k in
+    let ten : 10 ≤ length front = omega (arith, s.1, s.0.count_is) in
+    skip_refused faulty set limit c.in-Skipping.header front c.args.piece.now c.skip.new.self.state c.skip.result.used c.skip.result.outcome ten c.skip.ensures.fault (subst (λ (x : State). IsRefusedAt faulty set limit x front) c.in-Skipping.is r)

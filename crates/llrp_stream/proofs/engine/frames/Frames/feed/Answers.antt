@@ -23,3 +23,6 @@ returns-in-Err-clause-dead g c = λ e. (let z = c.in-Err.ensures.dead e in (z, c
 
 pub returns-in-Err-clause-stops : goal.returns-in-Err-clause-stops
 returns-in-Err-clause-stops g c = stops_so c.stop.new.self c.in-Err.error c.stop.ensures.raw c.stop.ensures.broken c.stop.ensures.memory c.stop.ensures.dead
+
+pub returns-in-Ok-clause-refuses : goal.returns-in-Ok-clause-refuses
+returns-in-Ok-clause-refuses g c = λ was front k r. c.in-Ok.ensures.refuses was front k r

@@ -3,10 +3,7 @@ use Rattle.llrp_stream.specs.declared.engine.body.Body.{Body}
 use Rattle.llrp_stream.proofs.engine.frames.Frames.give_up.Goals as goal
 
 pub returns-clause-raw : goal.returns-clause-raw
-returns-clause-raw g c = ap (λ (x : Body). x.raw.items) c.skip.ensures.body ∙ c.clear.ensures
+returns-clause-raw c = ap (λ (x : Body). x.raw.items) c.skip.ensures.body ∙ c.clear.ensures
 
 pub returns-clause-skips : goal.returns-clause-skips
-returns-clause-skips g c = λ p front s. c.skip.ensures.skips p c.args.self.now.limit front s
-
-pub returns-clause-told : goal.returns-clause-told
-returns-clause-told g c = λ was p front octets r. c.fault.ensures was r.0 p front octets r.1 r.2
+returns-clause-skips c = λ p front s. c.skip.ensures.skips p c.args.self.now.limit front s

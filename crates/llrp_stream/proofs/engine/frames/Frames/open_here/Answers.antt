@@ -2,7 +2,8 @@ use Rattle.std.proofs.Common.{◌≡◌, ℕ, Bool, true, false, List, [], Ok, r
 use Rattle.std.proofs.lemmas.List.{append-nil}
 use Rattle.std.proofs.lemmas.Result.{err_from_is_err_and}
 use Rattle.llrp_stream.specs.Cuts.{IsFrame}
-use Rattle.llrp_stream.specs.Calls.Frames.{GivesIn}
+use Rattle.llrp_schema.specs.declared.kinds.KindSet.{KindSet}
+use Rattle.llrp_stream.specs.Calls.Frames.{GivesIn, Refuses}
 use Rattle.llrp_stream.specs.declared.engine.frames.Outcome.TheVariants.{Whole}
 use Rattle.llrp_stream.proofs.FramesLemmas.{bare_frame, passed_first}
 use Rattle.llrp_stream.proofs.engine.frames.Frames.open_here.Goals as goal
@@ -48,3 +49,12 @@ returns-clause-takes g c = λ was st.
     let front = c.args._front.now in
     let s = c.in_ok-start.ensures.stands was front c.args.self.now.limit told c.requires.whole (λ later. c.requires.sound.says later) c.requires.most in
     c.go_on.ensures.takes was front (record { passed = passed_first c.args.self.now.body.reader.set c.args.self.now.limit front c.args.header c.start.new.body c.requires.whole c.requires.sound c.requires.sound.octets s.1 s.2; stands_for = s.0 })
+
+pub returns-clause-refuses : goal.returns-clause-refuses
+returns-clause-refuses g c = λ was st.
+    let no : c.in_ok-received.received ≡ false = cc (c.if-received.false) in
+    let told = subst (λ l. g.L.Listener.stands l was []) (sym (c.in_ok-received.ensures.none (ap (λ (x : Bool). Ok x) no))) st in
+    let front = c.args._front.now in
+    let s = c.in_ok-start.ensures.stands was front c.args.self.now.limit told c.requires.whole (λ later. c.requires.sound.says later) c.requires.most in
+    subst (λ (q : KindSet). Refuses (g.L.Listener.faulty c.go_on.new.listener was) q c.args.self.now.limit front c.args.piece.now c.go_on.new.self c.go_on.result) s.2
+    (c.go_on.ensures.refuses was front (record { passed = passed_first c.args.self.now.body.reader.set c.args.self.now.limit front c.args.header c.start.new.body c.requires.whole c.requires.sound c.requires.sound.octets s.1 s.2; stands_for = s.0 }))

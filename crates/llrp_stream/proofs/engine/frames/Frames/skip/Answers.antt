@@ -14,3 +14,6 @@ pub returns-clause-skips : goal.returns-clause-skips
 returns-clause-skips c = λ p limit front s.
     let new : Frames = record { limit = c.args.self.now.limit; state = state.Between; body = c.args.self.now.body } in
     skip_end p limit c.args.count (c.args.header.octets - c.args.count) c.args.header front c.args.piece.now new c.requires.begun c.requires.inside refl c.if-piece-left.false refl s
+
+pub returns-then-piece-left-clause-fault : goal.returns-then-piece-left-clause-fault
+returns-then-piece-left-clause-fault c = (c.args.count + length c.args.piece.now, refl)
