@@ -20,7 +20,7 @@ use Rattle.llrp_ask.specs.declared.step.Step.{Step}
 use Rattle.llrp_ask.specs.Calls.File.{IsFile, IsRefusedFile, IsStepOf, IsOwnLine, BeginsWithOwn, ListsSteps, begins_own, before_own, from_own, listed, lines_in, all_listed, with_own, later, no_listing, unended, no_own}
 use Rattle.llrp_ask.specs.Calls.Raw.{IsNoOwn}
 
--- ---- how far a file is read: these steps stand for what comes before the rest, which has so many lines
+-- ---- how far a file is read: these steps stand for the lines before the rest
 
 pub record Leads (raw : Bool) (text : List ℕ) (steps : List Step) (lines : ℕ) (rest : List ℕ) : Type 0 where
   pub file : (more : List Step) → IsFile raw rest more → IsFile raw text (steps ++ more)

@@ -36,7 +36,8 @@ use Rattle.llrp_ask.specs.declared.asking.Asking.{Asking}
 use Rattle.llrp_ask.specs.declared.conversation.Conversation.{Conversation}
 use Rattle.llrp_ask.specs.Calls.Asking.{Came, Event, after, follow, hear}
 use Rattle.llrp_ask.specs.Calls.Courses.{course_of}
-use Rattle.llrp_ask.specs.Private.Conversations.{MayStop, TakesFrame, TakesFrames, TakesSome, still_lawful}
+use Rattle.llrp_ask.specs.Private.Conversations.{TakesFrame, TakesFrames, TakesSome, still_lawful}
+use Rattle.llrp_ask.specs.Calls.Next.{MayStop}
 use Rattle.llrp_ask.specs.Calls.Run.{stopped}
 use Rattle.llrp_ask.specs.Calls.Shown.{IsShown, end_shown}
 use Rattle.llrp_ask.proofs.CourseLemmas.{follow_more}
@@ -217,7 +218,7 @@ and_and false b c = refl
 pub takes_none : (octets : List ℕ) (c : Conversation) (out : List ℕ) (p : SinkLog) → TakesSome octets octets c c out out p p
 takes_none octets c out p = record { items = []; came = no_frames octets; course = refl; text = []; is_text = no_texts c.form; written = wrote_nothing p; lawful = all_so_far c.lawful }
 
-came_more : (items : List Item) (item : Item) → map Came (items ++ item ∷ []) ≡ map Came items ++ Came item ∷ []
+pub came_more : (items : List Item) (item : Item) → map Came (items ++ item ∷ []) ≡ map Came items ++ Came item ∷ []
 came_more [] item = refl
 came_more (i ∷ items) item = ap (λ (l : List Event). Came i ∷ l) (came_more items item)
 

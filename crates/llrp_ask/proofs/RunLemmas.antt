@@ -24,7 +24,8 @@ use Rattle.llrp_ask.specs.declared.form.Form.{Form}
 use Rattle.llrp_ask.specs.declared.step.Wait.{Wait}
 use Rattle.llrp_ask.specs.Calls.Asking.{Came, Silence, Course, Event, after, follow, items_of, silences_of}
 use Rattle.llrp_ask.specs.Calls.Courses.{course_of}
-use Rattle.llrp_ask.specs.Private.Conversations.{Converses, MayStop, TakesEnd, TakesFrames, TakesPiece, TakesSilence, TakesTurn}
+use Rattle.llrp_ask.specs.Calls.Next.{MayStop}
+use Rattle.llrp_ask.specs.Private.Conversations.{Converses, TakesEnd, TakesFrames, TakesPiece, TakesSilence, TakesTurn}
 use Rattle.llrp_ask.specs.Calls.Run.{HasRead, MetEnd, ReadFailed, Stops, stopped}
 use Rattle.llrp_ask.specs.Calls.Shown.{IsShown}
 use Rattle.llrp_ask.proofs.CourseLemmas.{past, follow_past, follow_more, stopped_past, stopped_waits, items_more, items_came, silences_more, silences_came}
@@ -32,10 +33,10 @@ use Rattle.llrp_ask.proofs.FrameLemmas.{no_frames, no_texts, texts_more, then_mo
 
 -- ---- reading
 
-read_nothing : (r : SourceLog) → HasRead r r [] 0
+unfoldable pub read_nothing : (r : SourceLog) → HasRead r r [] 0
 read_nothing r = record { reads = 0; counts = rw (add-zero r.reads, add-zero r.failures) refl; bytes_are = Consumes-nil r.left }
 
-read_more : (a b c : SourceLog) (xs ys : List ℕ) (m n : ℕ) → HasRead a b xs m → HasRead b c ys n → HasRead a c (xs ++ ys) (m + n)
+unfoldable pub read_more : (a b c : SourceLog) (xs ys : List ℕ) (m n : ℕ) → HasRead a b xs m → HasRead b c ys n → HasRead a c (xs ++ ys) (m + n)
 read_more a b c xs ys m n p q = record {
   reads = p.reads + q.reads;
   counts = q.counts ∙ ap (λ (x : SourceLog). record x { reads = x.reads + q.reads; failures = x.failures + n; left = c.left }) p.counts ∙ rw (add_assoc a.reads p.reads q.reads, add_assoc a.failures m n) refl;
@@ -119,7 +120,7 @@ pub goes_on : (turns : ℕ) (old new : Conversation) (r0 r1 : SourceLog) (w0 w1 
 goes_on turns old new r0 r1 w0 w1 p0 p1 out wait t waits =
     stopped_waits t.so.why (follow t.so.events (course_of old.asking [])) wait (sym (ap (λ (c : Course). c.phase) t.so.course) ∙ waits)
 
-none_stops : (why : Option ToolErr) (r0 r1 : SourceLog) (rest : List ℕ) → why ≡ None → Stops why r0 r1 rest → (r1 ≡ r0) × IsPartial rest
+pub none_stops : (why : Option ToolErr) (r0 r1 : SourceLog) (rest : List ℕ) → why ≡ None → Stops why r0 r1 rest → (r1 ≡ r0) × IsPartial rest
 none_stops why r0 r1 rest e s = subst (λ (o : Option ToolErr). Stops o r0 r1 rest) e s
 
 pub can_read : (turns : ℕ) (old new : Conversation) (r0 r1 : SourceLog) (w0 w1 p0 p1 : SinkLog) (out : List ℕ) (wait : Wait) → Talks turns old new r0 r1 w0 w1 p0 p1 out → new.asking.phase ≡ Waits wait → IsFreshSource r0 → turns < 2 ^ 63 - 1 → CanRead r1
@@ -137,13 +138,13 @@ can_read turns old new r0 r1 w0 w1 p0 p1 out wait t waits fresh few =
 
 -- ---- a turn
 
-few_more : (turns n m silences all : ℕ) → n + silences ≤ turns → m ≡ 1 → all ≡ silences + 0 → (n + m) + all ≤ turns + 1
+pub few_more : (turns n m silences all : ℕ) → n + silences ≤ turns → m ≡ 1 → all ≡ silences + 0 → (n + m) + all ≤ turns + 1
 few_more turns n m silences all few one e = omega arith
 
-few_silent : (turns n m silences all : ℕ) → n + silences ≤ turns → m ≡ 0 → all ≡ silences + 1 → (n + m) + all ≤ turns + 1
+pub few_silent : (turns n m silences all : ℕ) → n + silences ≤ turns → m ≡ 0 → all ≡ silences + 1 → (n + m) + all ≤ turns + 1
 few_silent turns n m silences all few none e = omega arith
 
-stops_there : (why : Option ToolErr) (r : SourceLog) (rest : List ℕ) → MayStop why rest → Stops why r r rest
+pub stops_there : (why : Option ToolErr) (r : SourceLog) (rest : List ℕ) → MayStop why rest → Stops why r r rest
 stops_there None r rest m = (refl, m)
 stops_there (Some Broken) r rest m = (refl, m)
 stops_there (Some Strange) r rest m = (refl, m)
@@ -214,7 +215,7 @@ turn_silence turns old mid new r0 r1 r2 w0 w1 w2 p0 p1 p2 out t on took form sai
       empty = refl;
     }
 
-end_stops : (error : ToolErr) (r0 r1 : SourceLog) (rest : List ℕ) → ((error ≡ Early) × MetEnd r0 r1) ⊎ ((error ≡ Read) × ReadFailed r0 r1) → IsPartial rest → Stops (Some error) r0 r1 rest
+pub end_stops : (error : ToolErr) (r0 r1 : SourceLog) (rest : List ℕ) → ((error ≡ Early) × MetEnd r0 r1) ⊎ ((error ≡ Read) × ReadFailed r0 r1) → IsPartial rest → Stops (Some error) r0 r1 rest
 end_stops error r0 r1 rest (inl (e, met)) partial = subst (λ (x : ToolErr). Stops (Some x) r0 r1 rest) (sym e) (met, partial)
 end_stops error r0 r1 rest (inr (e, failed)) partial = subst (λ (x : ToolErr). Stops (Some x) r0 r1 rest) (sym e) (failed, partial)
 
@@ -285,7 +286,7 @@ silent_turn old asking out0 out1 r0 r1 p counts keeps course = inr (inl (record 
   keeps = record { held = refl; lawful = refl; shown = refl };
 }))
 
-read_some : (r0 r1 : SourceLog) (piece : List ℕ) → 0 < length piece → Took r0 r1 piece → (read : HasRead r0 r1 piece 0) × (read.reads ≡ 1)
+pub read_some : (r0 r1 : SourceLog) (piece : List ℕ) → 0 < length piece → Took r0 r1 piece → (read : HasRead r0 r1 piece 0) × (read.reads ≡ 1)
 read_some r0 r1 [] some took = absurd (omega (arith, some))
 read_some r0 r1 (b ∷ piece) some took = (record { reads = 1; counts = rw (add-zero r0.failures) took.0; bytes_are = took.1 }, refl)
 

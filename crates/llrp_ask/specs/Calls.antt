@@ -4,6 +4,7 @@ pub mod Asking
 pub mod Courses
 pub mod File
 pub mod Files
+pub mod Next
 pub mod Pause
 pub mod Raw
 pub mod Responses

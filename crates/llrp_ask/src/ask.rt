@@ -21,8 +21,8 @@ pub const MOST_TURNS: u64 = 9_223_372_036_854_775_807;
 
 /// A source with a limit on how long a read waits.
 pub trait TimedSource: Source {
-    /// From now on reads wait this many milliseconds in all; after that, and where nothing has come by then, they fail as `TimedOut`
-    /// or `WouldBlock`.
+    /// From now on reads wait this many milliseconds in all; after that, and where nothing has come by then,
+    /// they fail as `TimedOut` or `WouldBlock`.
     fn wait_for(&mut self, milliseconds: u64)
         ensures { Self.log self.new ≡ Self.log self.old };
 }
@@ -38,7 +38,7 @@ pub struct Manner {
     pub patience: u64,
 }
 
-/// For how long this is waited for, in milliseconds.
+/// For how many milliseconds this is waited for.
 fn time_for(wait: Wait, patience: u64) -> u64 {
     match wait {
         Wait::Pause { milliseconds } => milliseconds as u64,
@@ -46,8 +46,8 @@ fn time_for(wait: Wait, patience: u64) -> u64 {
     }
 }
 
-/// Whether a read failed since time was over.
-fn is_late(kind: ErrorKind) -> bool {
+/// Whether a read of a [`TimedSource`] failed because its time was over.
+pub fn is_late(kind: ErrorKind) -> bool {
     matches!(kind, ErrorKind::TimedOut | ErrorKind::WouldBlock)
 }
 
@@ -133,7 +133,7 @@ fn converse<R: TimedSource, W: Sink, P: Sink>(
     Ok(())
 }
 
-/// Takes steps with the reader whose octets the source gives, from the one that it has sent of
+/// Takes steps with the reader whose octets the source gives, beginning with the message that it sends by
 /// itself. What the client sends is written to `w`, and what came is shown in `p`; both are written
 /// for what was read before the next read.
 ///

@@ -230,7 +230,7 @@ impl<'a> Asking<'a> {
     }
 
     /// Takes note that nothing more came in time, and appends the octets that are sent then. The error
-    /// is as of `hear`.
+    /// is that of `hear`.
     pub fn fall_silent(&mut self, out: &mut Vec<u8>) -> Result<(), AllocError>
         ensures { OnOk result (course_of self.new out.new.items ≡ silent_in self.old.phase (course_of self.old out.old.items)) }
     {

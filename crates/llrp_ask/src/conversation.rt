@@ -3,49 +3,19 @@
 ghost use Rattle.std.specs.Prelude.{◌≡◌, ◌++◌, OnOk, IfErr, IfOk, [], true};
 ghost use Rattle.llrp_stream.specs.Cuts.{IsFrame};
 ghost use Rattle.llrp_stream.specs.Calls.Device.{CanWrite};
-ghost use Rattle.llrp_ask.specs.Private.Conversations.{EndsShown, IsNextIn, MayFail, still_lawful, TakesFrame, TakesFrames};
+ghost use Rattle.llrp_ask.specs.Private.Conversations.{EndsShown, MayFail, still_lawful, TakesFrame, TakesFrames};
 
 use crate::asking::Asking;
 use crate::form::{Form, show};
+use crate::next::{Next, next_in};
 use llrp_listing::{ToolErr, Verdict};
 use llrp_schema::KindSet;
-use llrp_stream::{Front, Sink, front_of};
+use llrp_stream::Sink;
 use llrp_tree::{FrameErr, MAX_LIMIT, decode_frame_in};
 use std::alloc::Global;
 use std::mem;
 
-/// What comes next in octets.
-#[derive(Clone, Copy)]
-pub(crate) enum Next {
-    /// A frame that is not whole, or nothing.
-    Partial,
-    /// A frame of this many octets.
-    Frame(usize),
-    /// No frame that can be taken: the stream breaks off, or a frame is longer than a message may be.
-    Stop(ToolErr),
-}
-
-/// What comes next in these octets.
-fn next_in(octets: &[u8]) -> Next
-    ensures { IsNextIn octets.now result }
-{
-    match front_of(octets) {
-        Front::Short => Next::Partial,
-        Front::Broken => Next::Stop(ToolErr::Broken),
-        Front::Frame(count) => {
-            if count > MAX_LIMIT {
-                return Next::Stop(ToolErr::Strange);
-            }
-            if octets.len() < count as usize {
-                return Next::Partial;
-            }
-            Next::Frame(count as usize)
-        }
-    }
-}
-
-/// Whether all frames are messages, where those before are or are not, and the verdict on the last one
-/// is this.
+/// Whether all frames are messages, given whether those before are, and the verdict on the last one.
 fn still_lawful(lawful: bool, verdict: Verdict) -> bool
     ensures { result ≡ still_lawful lawful verdict }
 {

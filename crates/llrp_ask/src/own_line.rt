@@ -1,4 +1,4 @@
-//! A line of a file of messages that is none of a listing: a pause, or octets as they are.
+//! A line of a file of messages that is not one of a listing: a pause, or octets as they are.
 
 ghost use Rattle.std.specs.Prelude.{◌≡◌, IfErr, IfOk};
 ghost use Rattle.llrp_ask.specs.Calls.File.{IsOwnLine, IsPauseStep, IsRawStep, begins_own};

@@ -35,5 +35,5 @@ has_one_run pieces start a b r s =
 pub has_one_place : HasOnePlace
 has_one_place here sequence a b r s =
     let x = r.number in let y = s.number in
-    let ra = r.ahead in let rb = r.behind in let sa = s.ahead in let sb = s.behind in
+    let ra = r.ahead in let rb = r.after in let sa = s.ahead in let sb = s.after in
     omega arith

@@ -55,7 +55,8 @@ impl Connections {
         find(self.streams.as_slice(), stream)
     }
 
-    /// The place of a connection, which is opened at the last place if it is not open yet. After an error nothing changed.
+    /// The place of a connection, which is opened at the last place if it is not open yet. After an error
+    /// nothing changed.
     pub fn open(&mut self, stream: u32) -> Result<usize, OpenErr>
         ensures ok { IfOk result (λ place. Opens stream place self.old.streams.items self.new.streams.items) }
         ensures full { IfErr result (λ e. e ≡ OpenErr.Full

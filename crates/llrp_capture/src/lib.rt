@@ -1,8 +1,9 @@
 //! The two sides of TCP connections, put together from the segments of a capture.
 //!
-//! Use it between the lines that tshark prints of a capture and a decoder of octets. [`segment_of`] reads a line, [`Connections`]
-//! counts the connections that are open, and a [`Reassembly`] takes the segments of one side in the order of the capture, and hands on
-//! its octets in the order in which they were sent: segments that come twice, in another order or one over the other are put right.
+//! Use it between the lines that tshark prints of a capture and a decoder of octets. [`segment_of`] reads a
+//! line, [`Connections`] counts the connections that are open, and a [`Reassembly`] takes the segments of one
+//! side in the order of the capture, and hands on its octets in the order in which they were sent: segments
+//! that come twice, in another order or one over the other are put right.
 //!
 //! ```
 //! let line = "1700000000.25\t3\t192.0.2.17\t\t5084\t0x0018\t1000\t083e";

@@ -43,8 +43,8 @@ impl Reassembly {
     ghost use Rattle.llrp_capture.specs.Calls.Reassembly.{Begins, GivesUp, IsSound, NothingWaits, SkipsTo, Takes};
     ghost use Rattle.llrp_capture.specs.Private.Sides.{HandsOn, Passes, TakesPart};
 
-    /// A side whose first octet has this sequence number; it takes no memory. After a segment with SYN that is the number after the
-    /// segment's own, and otherwise the segment's own.
+    /// A side whose first octet has this sequence number; it takes no memory. After a segment with SYN that
+    /// is the number after the segment's own, and otherwise the segment's own.
     pub fn new(alloc: Global, sequence: u32) -> Reassembly
         ensures sound { IsSound result }
         ensures begins { Begins sequence result }
@@ -83,8 +83,8 @@ impl Reassembly {
         self.hand_on(handed)
     }
 
-    /// Takes a segment with this sequence number, and appends to `handed` what is now without a gap. After an error nothing more is
-    /// to be taken.
+    /// Takes a segment with this sequence number, and appends to `handed` what is now without a gap. After an
+    /// error nothing more is to be taken.
     pub fn take(
         &mut self,
         sequence: u32,
@@ -109,8 +109,9 @@ impl Reassembly {
         }
     }
 
-    /// Gives up the octets that are missing before the first one that waits, and appends to `handed` what stands from that one on
-    /// without a gap. Returns how many are given up; `None` means that no octet waits, and nothing changed.
+    /// Gives up the octets that are missing before the first one that waits, and appends to `handed` what
+    /// stands from that one on without a gap. Returns how many are given up; `None` means that no octet
+    /// waits, and nothing changed.
     pub fn give_up(&mut self, handed: &mut Vec<u8>) -> Result<Option<u64>, TakeErr>
         requires { IsSound self.old }
         ensures sound { OnOk result (IsSound self.new) }
@@ -141,7 +142,8 @@ impl Reassembly {
         self.hand_on(handed)
     }
 
-    /// Goes on at the place of a segment, where no octet waits. Returns how many octets before it are given up.
+    /// Goes on at the place of a segment, where no octet waits. Returns how many octets before it are given
+    /// up.
     pub fn skip_to(&mut self, sequence: u32) -> Result<u64, TakeErr>
         requires sound { IsSound self.old }
         requires nothing { NothingWaits self.old }

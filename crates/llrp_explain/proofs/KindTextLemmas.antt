@@ -1,5 +1,5 @@
 -- Lists of kinds by their numbers, and fields that are narrow.
-use Rattle.std.proofs.Common.{ℕ, suc, ◌≡◌, ◌+◌, ◌≤◌, ◌<◌, ◌++◌, List, [], refl, sym, ap, ◌∙◌, All, map, length, get_or, subst, arith}
+use Rattle.std.proofs.Common.{ℕ, suc, ◌≡◌, ◌+◌, ◌≤◌, ◌<◌, ◌++◌, List, sym, ap, ◌∙◌, All, map, subst, arith}
 use Rattle.std.proofs.lemmas.List.{append-nil, append_assoc, length-map}
 use Rattle.std.proofs.Math.ListN.{get_or-map}
 use Rattle.llrp_schema.specs.declared.kinds.Kind.{Kind}

@@ -1,5 +1,5 @@
 -- How the text of lines grows.
-use Rattle.std.proofs.Common.{◌≡◌, ℕ, zero, suc, ◌+◌, ◌*◌, ◌<◌, ◌≤◌, List, [], ◌∷◌, ◌++◌, length, take, get_or, true, false, nat_eq, refl, sym, ap, subst, ◌∙◌, arith, append_assoc}
+use Rattle.std.proofs.Common.{◌≡◌, ℕ, ◌+◌, ◌<◌, List, [], ◌∷◌, ◌++◌, length, take, get_or, true, false, nat_eq, refl, sym, ap, subst, ◌∙◌, arith, append_assoc}
 use Rattle.std.specs.Prelude.{Result, Ok, Err, OnOk, cond, is_ok, if◌then◌else◌}
 use Rattle.std.proofs.lemmas.List.{append-nil, take_more}
 use Rattle.std.proofs.lemmas.Bool.{eqb-true}
@@ -40,7 +40,7 @@ bits_append (x ∷ xs) ys = let a = bits_append xs ys in omega arith
 zero_of : (n : ℕ) → nat_eq n 0 ≡ true → n ≡ 0
 zero_of n e = eqb-true n 0 e
 
-some_of : (n : ℕ) → 0 < n → nat_eq n 0 ≡ false
+pub some_of : (n : ℕ) → 0 < n → nat_eq n 0 ≡ false
 some_of n h = elim (nat_eq n 0) as (λ b. nat_eq n 0 ≡ b → b ≡ false) [ true ↦ λ e. absurd (omega (arith, h, eqb-true n 0 e)) | false ↦ λ e. refl ] refl
 
 pub text_append : (n : ℕ) (xs ys : List ExplainLine) → lines_text n (xs ++ ys) ≡ lines_text n xs ++ lines_text (n + bits_of_lines xs) ys
@@ -125,7 +125,32 @@ on_written (Err x) new a b Q e f = tt
 pub with_part : (old new a b : List ℕ) → new ≡ old ++ a → a ≡ b → new ≡ old ++ b
 with_part old new a b p e = p ∙ ap (λ (x : List ℕ). old ++ x) e
 
--- a text in five parts, and in nine
+-- a text in three parts, in four, in five and in nine
+three_joined : (t a b c : List ℕ) → ((t ++ a) ++ b) ++ c ≡ t ++ (a ++ (b ++ c))
+three_joined t a b c = simp append_assoc
+
+pub three_parts : (t0 t1 t2 t3 a b c : List ℕ) → t1 ≡ t0 ++ a → t2 ≡ t1 ++ b → t3 ≡ t2 ++ c → t3 ≡ t0 ++ (a ++ (b ++ c))
+three_parts t0 t1 t2 t3 a b c e1 e2 e3 = rw (e3, e2, e1) (three_joined t0 a b c)
+
+four_joined : (t a b c d : List ℕ) → (((t ++ a) ++ b) ++ c) ++ d ≡ t ++ (a ++ (b ++ (c ++ d)))
+four_joined t a b c d = simp append_assoc
+
+pub four_parts : (t0 t1 t2 t3 t4 a b c d : List ℕ) → t1 ≡ t0 ++ a → t2 ≡ t1 ++ b → t3 ≡ t2 ++ c → t4 ≡ t3 ++ d → t4 ≡ t0 ++ (a ++ (b ++ (c ++ d)))
+four_parts t0 t1 t2 t3 t4 a b c d e1 e2 e3 e4 = rw (e4, e3, e2, e1) (four_joined t0 a b c d)
+
+-- what ends past the end of a node, in words before
+before_past : (t a b c x : List ℕ) → ((t ++ a) ++ b) ++ (c ++ x) ≡ t ++ ((a ++ (b ++ c)) ++ x)
+before_past t a b c x = simp append_assoc
+
+pub past_three : (t0 t1 t2 t3 a b c x : List ℕ) → t1 ≡ t0 ++ a → t2 ≡ t1 ++ b → t3 ≡ t2 ++ (c ++ x) → t3 ≡ t0 ++ ((a ++ (b ++ c)) ++ x)
+past_three t0 t1 t2 t3 a b c x e1 e2 e3 = rw (e3, e2, e1) (before_past t0 a b c x)
+
+long_before_past : (t a b c d e x : List ℕ) → ((((t ++ a) ++ b) ++ c) ++ d) ++ (e ++ x) ≡ t ++ ((a ++ (b ++ (c ++ (d ++ e)))) ++ x)
+long_before_past t a b c d e x = simp append_assoc
+
+pub past_five : (t0 t1 t2 t3 t4 t5 a b c d e x : List ℕ) → t1 ≡ t0 ++ a → t2 ≡ t1 ++ b → t3 ≡ t2 ++ c → t4 ≡ t3 ++ d → t5 ≡ t4 ++ (e ++ x) → t5 ≡ t0 ++ ((a ++ (b ++ (c ++ (d ++ e)))) ++ x)
+past_five t0 t1 t2 t3 t4 t5 a b c d e x e1 e2 e3 e4 e5 = rw (e5, e4, e3, e2, e1) (long_before_past t0 a b c d e x)
+
 five_joined : (t a b c d e : List ℕ) → ((((t ++ a) ++ b) ++ c) ++ d) ++ e ≡ t ++ (a ++ (b ++ (c ++ (d ++ e))))
 five_joined t a b c d e = simp append_assoc
 

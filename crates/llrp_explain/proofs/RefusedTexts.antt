@@ -5,7 +5,8 @@ use Rattle.std.proofs.lemmas.List.{append-nil}
 use Rattle.llrp_tree.specs.FirstFault.{number}
 use Rattle.llrp_explain.specs.Calls.ExplainLines.{line}
 use Rattle.llrp_explain.specs.Calls.ExplainText.{line_text, lines_text}
-use Rattle.llrp_explain.specs.Calls.FaultLines.{NamedBits, named, taken_lines, header_head, tlv_head, tv_fields}
+use Rattle.llrp_explain.specs.Calls.FaultLines.{NamedBits, named, taken_lines, tv_fields}
+use Rattle.llrp_explain.specs.Private.RefusedHeads.{header_head, tlv_head}
 
 pub tv_text : (bit level : ℕ) (rest : List Bool) (before first all : List ℕ) → first ≡ before ++ line_text bit (line level (codes "type and value") 1 (number rest 0 1)) → all ≡ first ++ line_text (bit + 1) (line level (codes "ParameterType") 7 (number rest 1 7))
     → all ≡ before ++ lines_text bit (taken_lines level tv_fields 0 rest)

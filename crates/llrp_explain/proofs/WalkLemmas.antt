@@ -1,6 +1,6 @@
 -- The lines of a message, part by part.
 use Rattle.std.proofs.Common.{◌≡◌, ℕ, zero, suc, ◌+◌, ◌/◌, ◌<◌, ◌≤◌, List, [], ◌∷◌, ◌++◌, length, take, get_or, map, true, false, refl, sym, ap, subst, ◌∙◌, arith, append_assoc, ◌⊎◌, inl, inr, drop, ◌-◌}
-use Rattle.std.specs.Prelude.{Result, Ok, Err, OnOk, codes, if◌then◌else◌}
+use Rattle.std.specs.Prelude.{Result, OnOk, codes}
 use Rattle.llrp_schema.specs.declared.kinds.MsgKind.{MsgKind}
 use Rattle.llrp_schema.specs.declared.kinds.ParamKind.{ParamKind}
 use Rattle.llrp_schema.specs.declared.kinds.Kind.TheVariants.{Message, Parameter}
@@ -9,9 +9,8 @@ use Rattle.llrp_schema.specs.declared.kinds.Tail.TheVariants.{Absent, Words, Tex
 use Rattle.llrp_schema.specs.declared.kinds.Field.{Field}
 use Rattle.llrp_schema.specs.Calls.Schema.{field_rule}
 use Rattle.std.proofs.lemmas.List.{take_all}
-use Rattle.llrp_schema.specs.Schema.{FieldRule, fields_of, tail_of, number_of, is_tv}
-use Rattle.llrp_tree.specs.declared.TheConstants.{MAX_DEPTH}
-use Rattle.llrp_tree.specs.Tree.{Forest, none, and, Tree, MessageTree, add, forest, trees}
+use Rattle.llrp_schema.specs.Schema.{FieldRule, fields_of, tail_of, number_of}
+use Rattle.llrp_tree.specs.Tree.{Forest, Tree, MessageTree, add, forest, trees}
 use Rattle.llrp_tree.specs.Lawful.{levels, first, others, tree_octets, message_octets}
 use Rattle.llrp_tree.specs.Spelling.{message, tlv, tv, head_of, spread}
 use Rattle.llrp_tree.proofs.TreeLemmas.{forest-trees, forest-take_more}

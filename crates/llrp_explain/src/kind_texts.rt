@@ -133,7 +133,7 @@ fn push_later_choices(text: &mut Vec<u8>, members: &[ParamKind]) -> Result<(), A
 }
 
 /// Appends the names of parameters of which each may be the one that stands there.
-fn push_choice(text: &mut Vec<u8>, members: &[ParamKind]) -> Result<(), AllocError>
+pub(crate) fn push_choice(text: &mut Vec<u8>, members: &[ParamKind]) -> Result<(), AllocError>
     ensures { OnOk result (text.new.items ≡ text.old.items ++ choice (names members.now)) }
 {
     let Some((first, later)) = members.split_first() else {
@@ -237,7 +237,7 @@ fn push_later_names(text: &mut Vec<u8>, kinds: &[Kind]) -> Result<(), AllocError
 }
 
 /// Appends the names of kinds.
-fn push_names(text: &mut Vec<u8>, kinds: &[Kind]) -> Result<(), AllocError>
+pub(crate) fn push_names(text: &mut Vec<u8>, kinds: &[Kind]) -> Result<(), AllocError>
     ensures { OnOk result (text.new.items ≡ text.old.items ++ listed (map name_of kinds.now)) }
 {
     let Some((first, later)) = kinds.split_first() else {

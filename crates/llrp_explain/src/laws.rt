@@ -1,6 +1,6 @@
 //! Laws of the lines of a message and of an open tree.
 
-ghost use Rattle.std.specs.Prelude.{◌≡◌, ℕ, ◌+◌, ◌*◌, ◌≤◌, ◌++◌, Bool, List, Some, length};
+ghost use Rattle.std.specs.Prelude.{◌≡◌, ℕ, ◌+◌, ◌*◌, ◌≤◌, ◌++◌, ◌∷◌, [], Bool, List, Some, length};
 ghost use Rattle.llrp_tree.specs.Tree.{MessageTree};
 ghost use Rattle.llrp_tree.specs.OpenTree.{Begun, covers};
 ghost use Rattle.llrp_tree.specs.Frame.{Frame};
@@ -9,6 +9,8 @@ ghost use Rattle.tag_bits.specs.Digits.{digits_of_bytes};
 ghost use Rattle.llrp_schema.specs.declared.kinds.KindSet.{KindSet};
 ghost use Rattle.llrp_tree.specs.declared.fault.Reason.{Reason};
 ghost use Rattle.llrp_explain.specs.Calls.ExplainLines.{ExplainLine, digits_of_lines, bits_of_lines, message_lines, open_lines};
+ghost use Rattle.llrp_explain.specs.Calls.ExplainJson.{HasShortColumns, field_json, line_object};
+ghost use Rattle.llrp_explain.specs.Calls.ExplainText.{line_text};
 ghost use Rattle.llrp_tree.specs.OpenTree.{IsOpenTree};
 ghost use Rattle.llrp_tree.specs.FirstFault.{next_fault};
 ghost use Rattle.llrp_tree.specs.Calls.Deciding.{deciding};
@@ -35,6 +37,12 @@ pub fn fault_lines_are_frame()
         (lines refused : List ExplainLine) → 10 ≤ length frame
         → ExplainsFault p limit frame bit reason lines refused → (others : List Bool)
         × (digits_of_bytes frame ≡ digits_of_lines lines ++ (digits_of_lines refused ++ others)) }
+{}
+
+/// The object that is made of a line's text has the line's columns.
+pub fn objects_have_columns()
+    ensures { (refused : Bool) (bit : ℕ) (l : ExplainLine) (text : List ℕ) → HasShortColumns bit l
+        → line_text bit l ≡ text ++ 10 ∷ [] → field_json refused text ≡ line_object refused bit l }
 {}
 
 /// The digits that decide a fault have the lines of what is refused, whatever comes after them.

@@ -9,18 +9,30 @@
 //! ```
 #![tactic(auto)]
 
+mod asked;
 mod explained;
+mod fault_texts;
+mod form;
+mod handed;
+mod json;
 mod kind_texts;
 pub mod laws;
 mod lines;
+mod missing;
+mod nearest;
+mod printer;
 pub mod push;
-pub mod refused;
+mod refusals;
+mod refused;
 mod rows;
-pub mod sentences;
+mod sentences;
 mod walk;
 
-pub use explained::{StreamText, explain_stream, push_frame};
+pub use explained::{Explainer, StreamText, explain_only, explain_stream, explain_stream_in};
+pub use form::Form;
+pub use json::LineKind;
 pub use kind_texts::push_kind;
 pub use lines::Lines;
+pub use nearest::nearest_names;
 pub use rows::{kinds_of, line_of, table};
 pub use walk::push_message;

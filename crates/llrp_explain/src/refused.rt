@@ -1,15 +1,19 @@
 //! The lines of the part of a frame that is refused.
 
-ghost use Rattle.std.specs.Prelude.{◌≡◌, ◌+◌, ◌*◌, ◌≤◌, ◌++◌, Bool, List, OnOk, codes, length, take};
+ghost use Rattle.std.specs.Prelude.{◌≡◌, ◌⊎◌, ◌+◌, ◌*◌, ◌≤◌, ◌++◌, ◌∷◌, [], ℕ, Bool, List, OnOk, codes, length, take};
 ghost use Rattle.tag_bits.specs.Digits.{digits_of_bytes};
 ghost use Rattle.llrp_schema.specs.Calls.Schema.{field_rule};
 ghost use Rattle.llrp_tree.specs.FirstFault.{number};
 ghost use Rattle.llrp_explain.specs.Calls.ExplainLines.{line};
 ghost use Rattle.llrp_explain.specs.Calls.ExplainText.{line_text, lines_text};
-ghost use Rattle.llrp_explain.specs.Calls.FaultLines.{header_fields, header_head, taken_lines, tlv_fields, tlv_head, tv_fields};
+ghost use Rattle.llrp_tree.specs.declared.fault.Reason.TheVariants.{Count, Short};
+ghost use Rattle.llrp_explain.specs.Calls.FaultLines.{count_fields, field_fields, header_fields, taken_lines, tlv_fields, tv_fields};
+ghost use Rattle.llrp_explain.specs.Calls.FaultSentences.{counted};
+ghost use Rattle.llrp_explain.specs.Private.RefusedHeads.{header_head, is_counted, tlv_head};
+ghost use Rattle.llrp_explain.specs.Calls.HeaderFaults.{refused_text};
 
 use crate::push::push_line;
-use llrp_schema::Field;
+use llrp_schema::{Field, Tail};
 use llrp_tree::Reason;
 use llrp_tree::numbers::from_bit;
 use std::alloc::AllocError;
@@ -34,7 +38,7 @@ fn push_read(
 }
 
 /// Appends the lines of the head of a parameter with type and value.
-pub fn push_tv(text: &mut Vec<u8>, bit: u32, level: u8, octets: &[u8]) -> Result<(), AllocError>
+fn push_tv(text: &mut Vec<u8>, bit: u32, level: u8, octets: &[u8]) -> Result<(), AllocError>
     requires place { bit ≤ 4294967000 }
     requires whole { 1 ≤ length octets.now }
     ensures { OnOk result ((later : List Bool) → text.new.items ≡ text.old.items ++ lines_text bit
@@ -45,7 +49,7 @@ pub fn push_tv(text: &mut Vec<u8>, bit: u32, level: u8, octets: &[u8]) -> Result
 }
 
 /// Appends the lines of the first fields of a head of a parameter with type, length and value.
-pub fn push_tlv(
+fn push_tlv(
     text: &mut Vec<u8>,
     bit: u32,
     level: u8,
@@ -73,7 +77,11 @@ pub fn push_tlv(
 }
 
 /// Appends the lines of the first fields of a header.
-pub fn push_header(text: &mut Vec<u8>, octets: &[u8], fields: usize) -> Result<(), AllocError>
+pub(crate) fn push_header(
+    text: &mut Vec<u8>,
+    octets: &[u8],
+    fields: usize,
+) -> Result<(), AllocError>
     requires few { fields ≤ 4 }
     requires whole { 10 ≤ length octets.now }
     ensures { OnOk result ((later : List Bool) → text.new.items ≡ text.old.items ++ lines_text 0
@@ -97,45 +105,130 @@ pub fn push_header(text: &mut Vec<u8>, octets: &[u8], fields: usize) -> Result<(
     push_read(text, 16, 0, b"MessageLength", octets, 16, 32)
 }
 
-/// Appends the line of the count of a tail.
-pub fn push_count(text: &mut Vec<u8>, bit: u32, level: u8, octets: &[u8]) -> Result<(), AllocError>
-    requires whole { 2 ≤ length octets.now }
-    ensures { OnOk result ((later : List Bool) → text.new.items ≡ text.old.items ++ line_text bit
-        (line level (codes "count") 16 (number (digits_of_bytes octets.now ++ later) 0 16))) }
+/// Appends the words before the lines of what is refused.
+pub(crate) fn push_heading(text: &mut Vec<u8>) -> Result<(), AllocError>
+    ensures { OnOk result (text.new.items ≡ text.old.items ++ codes "then, refused:\n") }
 {
-    push_read(text, bit, level, b"count", octets, 0, 16)
+    text.extend_from_slice(b"then, refused:\n")
 }
 
-/// Appends the line of a field that fails, which stands in the octets from this bit of them on.
-pub fn push_failing(
+/// Appends the line of the one field that is refused.
+fn push_refused(
+    text: &mut Vec<u8>,
+    bit: u32,
+    level: u8,
+    name: &[u8],
+    width: u32,
+    value: u128,
+) -> Result<(), AllocError>
+    requires some { 1 ≤ width }
+    ensures { OnOk result (text.new.items ≡ text.old.items
+        ++ refused_text bit (line level name.now width value ∷ [])) }
+{
+    push_heading(text)?;
+    push_line(text, bit, width, level, name, value)
+}
+
+/// Appends the line of a field that fails, if it does not end after its node.
+pub(crate) fn push_refused_field(
+    text: &mut Vec<u8>,
+    bit: u32,
+    level: u8,
+    reason: Reason,
+    rule: &Field,
+    value: u128,
+) -> Result<(), AllocError>
+    requires some { 1 ≤ rule.now.width }
+    ensures { OnOk result ((rest : List Bool)
+        → (reason ≡ Short) ⊎ (value ≡ number rest 0 rule.now.width)
+        → text.new.items ≡ text.old.items ++ refused_text bit
+        (taken_lines level (field_fields reason (field_rule rule.now)) 0 rest)) }
+{
+    match reason {
+        Reason::Short => Ok(()),
+        _ => push_refused(text, bit, level, rule.name.as_bytes(), rule.width, value),
+    }
+}
+
+/// Whether a tail begins with a count.
+pub(crate) fn is_counted(form: Tail) -> bool
+    ensures { result ≡ is_counted form }
+{
+    match form {
+        Tail::Words | Tail::Text => true,
+        Tail::Absent | Tail::Bits | Tail::Data => false,
+    }
+}
+
+/// Appends the line of the count of a tail that counts too many words or octets.
+pub(crate) fn push_refused_count(
+    text: &mut Vec<u8>,
+    bit: u32,
+    level: u8,
+    reason: Reason,
+    form: Tail,
+    count: u128,
+) -> Result<(), AllocError>
+    ensures { OnOk result ((fields : List ℕ) (rest : List Bool)
+        → (reason ≡ Count → count ≡ counted form fields rest)
+        → text.new.items ≡ text.old.items ++ refused_text bit
+        (taken_lines level (count_fields reason form) 0 rest)) }
+{
+    match reason {
+        Reason::Count => {
+            let counts = is_counted(form);
+            if counts {
+                return push_refused(text, bit, level, b"count", 16, count);
+            }
+            Ok(())
+        }
+        _ => Ok(()),
+    }
+}
+
+/// Appends the lines of the head of a parameter with type and value.
+pub(crate) fn push_refused_tv(
     text: &mut Vec<u8>,
     bit: u32,
     level: u8,
     octets: &[u8],
-    from: usize,
-    rule: &Field,
 ) -> Result<(), AllocError>
-    requires some { 1 ≤ rule.now.width }
-    requires narrow { rule.now.width ≤ 96 }
-    requires within { from + rule.now.width ≤ 8 * length octets.now }
-    ensures { OnOk result ((later : List Bool) → text.new.items ≡ text.old.items ++ line_text bit
-        (line level (field_rule rule.now).name (field_rule rule.now).width
-        (number (digits_of_bytes octets.now ++ later) from rule.now.width))) }
+    requires place { bit ≤ 4294967000 }
+    requires whole { 1 ≤ length octets.now }
+    ensures { OnOk result ((later : List Bool) → text.new.items ≡ text.old.items ++ refused_text bit
+        (taken_lines level tv_fields 0 (digits_of_bytes octets.now ++ later))) }
 {
-    push_read(
-        text,
-        bit,
-        level,
-        rule.name.as_bytes(),
-        octets,
-        from,
-        rule.width,
-    )
+    push_heading(text)?;
+    push_tv(text, bit, level, octets)
+}
+
+/// Appends the lines of the head of a parameter with type, length and value up to the field that fails.
+pub(crate) fn push_refused_tlv(
+    text: &mut Vec<u8>,
+    bit: u32,
+    level: u8,
+    reason: Reason,
+    octets: &[u8],
+) -> Result<(), AllocError>
+    requires place { bit ≤ 4294967000 }
+    ensures { OnOk result ((later : List Bool) → (reason ≡ Short) ⊎ (4 ≤ length octets.now)
+        → text.new.items ≡ text.old.items ++ refused_text bit
+        (taken_lines level (tlv_fields reason) 0 (digits_of_bytes octets.now ++ later))) }
+{
+    let count = tlv_count(reason);
+    if count == 0 {
+        return Ok(());
+    }
+    if octets.len() < 4 {
+        return Ok(());
+    }
+    push_heading(text)?;
+    push_tlv(text, bit, level, octets, count)
 }
 
 /// How many fields of a header come up to the one that fails.
 #[tactic(auto, unfolding(crate::specs::Calls::FaultLines::header_fields))]
-pub fn header_count(reason: Reason) -> usize
+pub(crate) fn header_count(reason: Reason) -> usize
     ensures fields { take result header_head ≡ header_fields reason }
     ensures few { result ≤ 4 }
 {
@@ -150,7 +243,7 @@ pub fn header_count(reason: Reason) -> usize
 
 /// How many fields of the head of a parameter with a length come up to the one that fails.
 #[tactic(auto, unfolding(crate::specs::Calls::FaultLines::tlv_fields))]
-pub fn tlv_count(reason: Reason) -> usize
+fn tlv_count(reason: Reason) -> usize
     ensures fields { take result tlv_head ≡ tlv_fields reason }
     ensures few { result ≤ 3 }
 {

@@ -16,7 +16,7 @@ use llrp_tree::{Message, Node};
 use std::alloc::AllocError;
 
 /// Appends the lines of a message's header.
-fn push_header(
+pub(crate) fn push_header(
     lines: &mut Lines,
     version: u8,
     kind: MsgKind,
@@ -35,7 +35,11 @@ fn push_header(
 }
 
 /// Appends the lines of the head of a parameter with type and value.
-fn push_short_head(lines: &mut Lines, level: u8, kind: ParamKind) -> Result<(), AllocError>
+pub(crate) fn push_short_head(
+    lines: &mut Lines,
+    level: u8,
+    kind: ParamKind,
+) -> Result<(), AllocError>
     ensures { OnOk result (Adds (head_lines level (tv kind)) lines.old lines.new) }
 {
     let type_number = number(Kind::Parameter(kind));
@@ -44,7 +48,7 @@ fn push_short_head(lines: &mut Lines, level: u8, kind: ParamKind) -> Result<(), 
 }
 
 /// Appends the lines of the head of a parameter with type, length and value.
-fn push_long_head(
+pub(crate) fn push_long_head(
     lines: &mut Lines,
     level: u8,
     kind: ParamKind,
@@ -59,7 +63,12 @@ fn push_long_head(
 }
 
 /// Appends the lines of the head of a parameter of this many octets.
-fn push_head(lines: &mut Lines, level: u8, kind: ParamKind, octets: u32) -> Result<(), AllocError>
+pub(crate) fn push_head(
+    lines: &mut Lines,
+    level: u8,
+    kind: ParamKind,
+    octets: u32,
+) -> Result<(), AllocError>
     ensures { OnOk result (Adds (head_lines level (head_of kind octets)) lines.old lines.new) }
 {
     if is_tv(kind) {
@@ -80,7 +89,7 @@ fn next_value(values: &[u128]) -> (u128, &[u128])
 }
 
 /// Appends the lines of fields, reserved ones among them.
-fn push_fields(
+pub(crate) fn push_fields(
     lines: &mut Lines,
     level: u8,
     rules: &[Field],
@@ -102,7 +111,12 @@ fn push_fields(
 }
 
 /// Appends the lines of a tail, after its count if it has one.
-fn push_tail(lines: &mut Lines, level: u8, form: Tail, tail: &[u8]) -> Result<(), AllocError>
+pub(crate) fn push_tail(
+    lines: &mut Lines,
+    level: u8,
+    form: Tail,
+    tail: &[u8],
+) -> Result<(), AllocError>
     ensures { OnOk result (Adds (tail_lines level form tail.now) lines.old lines.new) }
 {
     match form {

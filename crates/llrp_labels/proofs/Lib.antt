@@ -1,3 +1,4 @@
 pub mod VisibleTexts
 pub mod LineLemmas
 pub mod TextSteps
+pub mod TagLemmas

@@ -8,9 +8,12 @@ use Rattle.memchr.specs.Find.{NoneAfter, Passes, is_byte}
 use Rattle.tag_uri.proofs.TextLaws.{words_apart, texts_same}
 use Rattle.tag_schemes.specs.AllTexts.{IsTextInAll}
 use Rattle.tag_schemes.specs.declared.numbers.Numbers.{Numbers}
+use Rattle.tag_schemes.specs.declared.supplier.Supplier.{Supplier}
+use Rattle.tag_schemes.specs.Suppliers.{supplier_uri}
 use Rattle.tag_schemes.specs.Texts.{uri_in}
 use Rattle.tag_schemes.proofs.TextLaws.{words_apart_in, same_text_in}
 use Rattle.tag_forms.proofs.FormLemmas.{one_text}
+use Rattle.tag_schemes.proofs.SupplierTexts.{supplier_uri_is}
 use Rattle.tag_schemes.proofs.WriteFacts.{uri_in_is}
 use Rattle.tag_forms.specs.Forms.{begins}
 use Rattle.tag_forms.specs.declared.form.Form.TheVariants.{Key}
@@ -94,13 +97,17 @@ lacks_front byte (c ∷ a) b h = (h.0, lacks_front byte a b h.1)
 uri_begins : (m : Numbers) → begins (uri_in m) (codes "urn:epc:") ≡ true
 uri_begins m = rw (uri_in_is m) refl
 
+supplier_uri_begins : (m : Supplier) → begins (supplier_uri m) (codes "urn:epc:") ≡ true
+supplier_uri_begins m = rw (supplier_uri_is m) refl
+
 none_among : (schemes : Bool) (line : List ℕ) → IsListed line → ((f : List ℕ) (w : ℕ) → EndsInWord false line f w → ⊥) → (f : List ℕ) (w : ℕ) → EndsInWord schemes line f w → ⊥
 none_among false line l none f w h = none f w h
 none_among true line l none f w h = further h.is
   where
     further : IsTextInAll w h.text → ⊥
     further (inl a) = l.last none f h.text h.last (among_utf8 true w h.text h.is, subst (λ (t : List ℕ). begins t (codes "urn:epc:") ≡ true) (sym a.2) (uri_begins a.0))
-    further (inr a) = none f w (record { text = h.text; last = h.last; below = h.below; is = a.1 })
+    further (inr (inl a)) = l.last none f h.text h.last (among_utf8 true w h.text h.is, subst (λ (t : List ℕ). begins t (codes "urn:epc:") ≡ true) (sym a.2) (supplier_uri_begins a.0))
+    further (inr (inr a)) = none f w (record { text = h.text; last = h.last; below = h.below; is = a.1 })
 
 ends_again : (schemes : Bool) (front text : List ℕ) (word : ℕ) → word < 2 ^ 96 → IsTextAmong schemes word text → EndsInWord schemes (front ++ 32 ∷ text) front word
 ends_again schemes front text word below is =

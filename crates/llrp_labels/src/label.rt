@@ -14,7 +14,7 @@ use tag_schemes::text_in_all;
 use tag_uri::text_of_word;
 
 /// The text of a word, in the set of all schemes or in that of the seven.
-fn text_among(schemes: bool, word: Word) -> ArrayString<64>
+pub(crate) fn text_among(schemes: bool, word: Word) -> ArrayString<64>
     ensures { IsTextAmong schemes word result.bytes }
 {
     if schemes {

@@ -3,7 +3,7 @@
 //!
 //! Use it to show what a stock system knows beside a reader's words, and to read such a listing back. [`list_labelled`] and
 //! [`run_show_labelled`] write the listing of a stream with labels; [`label_text`] labels a listing, [`plain_text`] takes the labels
-//! off, line by line, and [`read_plain`] those of a listing that a source gives.
+//! off, line by line, and [`read_plain`] those of a listing that a source gives. [`label_tags`] labels the lines of tags.
 //!
 //! ```
 //! let labels = Labels { schemes: false, keys: true };
@@ -20,6 +20,7 @@ pub mod laws;
 mod listing;
 mod plain;
 mod runs;
+mod tags;
 mod texts;
 mod word;
 
@@ -27,4 +28,5 @@ pub use fault::{LabelErr, LabelFault, PlainErr};
 pub use labels::Labels;
 pub use listing::list_labelled;
 pub use runs::{read_plain, run_show_labelled};
+pub use tags::label_tags;
 pub use texts::{label_text, plain_text};

@@ -100,8 +100,7 @@ granted_keeps mask EnableInventory c at h = say_keeps mask StartInventory c refl
 granted_keeps mask StartInventory c at h = look_keeps mask c c.changes (is_some c.seen) h.changes (h.none (ap early at)) h
 granted_keeps mask AddAccess c at h = say_keeps mask EnableAccess c refl (λ e. absurd (never e)) h
 granted_keeps mask EnableAccess c at h = operate_keeps mask c c.reported h
-granted_keeps mask RemoveAccess c at h =
-    say_keeps mask RemoveInventory (record c { armed = false }) refl (λ e. absurd (never e)) (record { changes = h.changes; own = h.own; none = h.none; one = h.one })
+granted_keeps mask RemoveAccess c at h = say_keeps mask RemoveInventory c refl (λ e. absurd (never e)) h
 granted_keeps mask RemoveInventory c at h = say_keeps mask Close c refl (λ e. absurd (never e)) h
 granted_keeps mask Close c at h = staged mask Ended c (λ e. absurd (never e)) h
 

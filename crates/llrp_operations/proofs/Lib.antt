@@ -1,5 +1,11 @@
+pub mod AccessLemmas
+pub mod ChangeLemmas
+pub mod ConversationLemmas
 pub mod CourseLawLemmas
+pub mod DeletionLemmas
 pub mod LineLemmas
 pub mod ResultLemmas
+pub mod TalkLemmas
+pub mod TurnLemmas
 pub mod VerifiedLemmas
 pub mod WordLemmas

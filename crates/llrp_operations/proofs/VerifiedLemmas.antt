@@ -32,7 +32,7 @@ skips ts i t within is said =
     ∙ kept_is t (drop (suc i) ts) ∙ kept_false (is_result t) t (filter is_result (drop (suc i) ts)) said
     ∙ ap (λ (n : ℕ). filter is_result (drop n ts)) more
 
--- ---- what is left of a list after so many elements, and after one more
+-- ---- what is left of a list after n elements, and after one more
 
 drop_rest : (n : ℕ) (xs ts : List Tree) (t : Tree) → drop n xs ≡ t ∷ ts → drop (suc n) xs ≡ ts
 drop_rest zero [] ts t h = absurd (search (rules, h))

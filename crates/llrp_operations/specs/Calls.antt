@@ -1,4 +1,5 @@
 -- What public contracts say that no promise of README rests on.
+pub mod Access
 pub mod Changes
 pub mod Course
 pub mod CourseLaws
@@ -9,4 +10,5 @@ pub mod Messages
 pub mod Operations
 pub mod ResultNames
 pub mod Results
+pub mod Talking
 pub mod Words

@@ -12,12 +12,14 @@ use crate::word::{WordErr, push_words};
 use std::alloc::{AllocError, Global};
 use tag_memory::Bank;
 
-/// The word of the EPC bank at which an EPC begins, after the checksum and the protocol control word (EPC C1G2).
+/// The word of the EPC bank at which an EPC begins, after the checksum and the protocol control word (EPC
+/// C1G2).
 const EPC_WORD: u16 = 2;
 
-/// The write that gives a tag an EPC of these octets in place of its old one, which may be of none where it is not known. It writes the EPC's
-/// words, and where its length differs, with them the protocol control word: its five highest bits count the EPC's words, and its others
-/// are 0. The errors are `Digits` for an EPC of no whole words, or of more than [`LONGEST_EPC`] octets, and `Memory`.
+/// The write that gives a tag an EPC of these octets in place of its old one, which has no octets where it is
+/// not known. It writes the EPC's words and, where the length differs, the protocol control word with them:
+/// its five highest bits count the EPC's words, and its others are 0. The errors are `Digits` for an EPC that
+/// is not of whole words, or of more than [`LONGEST_EPC`] octets, and `Memory`.
 pub fn epc_write(alloc: Global, old: &[u8], epc: &[u8]) -> Result<Operation, WordErr>
     ensures write { IfOk result (IsEpcWrite old.now epc.now) }
     ensures refused { IfErr result (λ e. (e ≡ WordErr.Memory) ⊎ ((e ≡ WordErr.Digits)

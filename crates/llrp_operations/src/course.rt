@@ -1,9 +1,9 @@
 //! The course of operations on one tag: what a client says to a reader, in which order, and what ends it.
 
-ghost use Rattle.std.specs.Prelude.{◌≡◌, ◌&&◌, [], List, OnOk, is_some, not};
+ghost use Rattle.std.specs.Prelude.{◌≡◌, [], OnOk};
 ghost use Rattle.llrp_operations.specs.Calls.Course as course;
 ghost use Rattle.llrp_operations.specs.Calls.Course.{course_of};
-ghost use Rattle.llrp_operations.specs.declared.course.Saying.{Saying as TheSaying};
+ghost use Rattle.llrp_operations.specs.Private.Sights.{TakesNote, TakesSight};
 
 use std::alloc::{AllocError, Global};
 
@@ -61,9 +61,9 @@ pub enum Outcome {
     Refused(u16),
     /// More than one tag was there that might be meant; nothing was done.
     Several,
-    /// No tag came.
+    /// No tag came, and none was changed.
     NoTag,
-    /// The connection was lost before the results came: the tag may have been changed, or not.
+    /// The AccessSpec was enabled, and no results came: the tag may have been changed, or not.
     Unknown,
     /// The connection was lost; nothing was changed.
     Broken,
@@ -98,7 +98,7 @@ pub struct Course<'a> {
     /// Whether it selects another one too.
     several: bool,
     refused: Option<u16>,
-    /// ENABLE_ACCESSSPEC was said, and that the AccessSpec was deleted not heard.
+    /// ENABLE_ACCESSSPEC was said.
     armed: bool,
     reported: bool,
 }
@@ -143,14 +143,15 @@ fn settled(stage: Stage) -> Stage
 }
 
 /// Whether the connection stands.
-fn stands(stage: Stage) -> bool
+pub(crate) fn stands(stage: Stage) -> bool
     ensures { result ≡ course.stands stage }
 {
     !matches!(stage, Stage::Ended | Stage::Lost)
 }
 
 impl<'a> Course<'a> {
-    /// A client that is connected, and operates on the tag with this EPC, or with one of no octets on any tag.
+    /// A client that is connected, and operates on the tag with this EPC, or with one of no octets on any
+    /// tag.
     pub fn new(alloc: Global, mask: &'a [u8], changes: bool) -> Course<'a>
         ensures { course_of result [] ≡ course.first_course mask.now changes }
     {
@@ -172,6 +173,13 @@ impl<'a> Course<'a> {
         ensures { result ≡ self.now.stage }
     {
         self.stage
+    }
+
+    /// Whether the results came.
+    pub fn is_reported(&self) -> bool
+        ensures { result ≡ self.now.reported }
+    {
+        self.reported
     }
 
     /// The EPC of the tag that is operated on: the one that was seen, or else the mask.
@@ -232,10 +240,7 @@ impl<'a> Course<'a> {
             Demand::StartInventory => self.look(out),
             Demand::AddAccess => self.say(Demand::EnableAccess, out),
             Demand::EnableAccess => self.operate(out),
-            Demand::RemoveAccess => {
-                self.armed = false;
-                self.say(Demand::RemoveInventory, out)
-            }
+            Demand::RemoveAccess => self.say(Demand::RemoveInventory, out),
             Demand::RemoveInventory => self.say(Demand::Close, out),
             Demand::Close => {
                 self.stage = Stage::Ended;
@@ -287,7 +292,7 @@ impl<'a> Course<'a> {
 
     /// Takes note of a tag that the mask selects.
     fn note(&mut self, epc: &[u8]) -> Result<(), AllocError>
-        ensures { OnOk result ((said : List TheSaying) → course_of self.new said ≡ course.noted epc.now (course_of self.old said).seen (course_of self.old said)) }
+        ensures { OnOk result (TakesNote epc.now self.old self.new) }
     {
         match &self.seen {
             Some(first) => {
@@ -302,7 +307,7 @@ impl<'a> Course<'a> {
 
     /// Takes a tag that was seen.
     fn see(&mut self, epc: &[u8]) -> Result<(), AllocError>
-        ensures { OnOk result ((said : List TheSaying) → course_of self.new said ≡ course.sees epc.now (course_of self.old said)) }
+        ensures { OnOk result (TakesSight epc.now self.old self.new) }
     {
         let is_counted = looks(self.stage) && epc.starts_with(self.mask);
         if is_counted {
@@ -336,7 +341,8 @@ impl<'a> Course<'a> {
         Ok(())
     }
 
-    /// Takes what came, and appends what is said then. The error is that memory ran out, after which the client takes nothing more.
+    /// Takes what came, and appends what is said then. The error is that memory ran out, after which the
+    /// client takes nothing more.
     pub fn hear(&mut self, heard: Heard<'_>, out: &mut Vec<Saying>) -> Result<(), AllocError>
         ensures { OnOk result (course_of self.new out.new.items ≡ course.hear heard.entry (course_of self.old out.old.items)) }
     {
@@ -369,7 +375,7 @@ impl<'a> Course<'a> {
         self.say(Demand::RemoveAccess, out)
     }
 
-    /// Takes note that nothing more came in time, and appends what is said then. The error is as of `hear`.
+    /// Takes note that nothing more came in time, and appends what is said then. The error is that of `hear`.
     pub fn fall_silent(&mut self, out: &mut Vec<Saying>) -> Result<(), AllocError>
         ensures { OnOk result (course_of self.new out.new.items ≡ course.silent self.old.stage (course_of self.old out.old.items)) }
     {
@@ -386,10 +392,31 @@ impl<'a> Course<'a> {
 
     /// Takes note that nothing more can come.
     pub fn lose(&mut self)
-        ensures { (said : List TheSaying) → course_of self.new said ≡ course.lose (course_of self.old said) }
+        ensures { course.IsLost self.old self.new }
     {
         if stands(self.stage) {
             self.stage = Stage::Lost;
+        }
+    }
+
+    /// Whether the reader may have changed a tag without a report.
+    fn may_have_changed(&self) -> bool
+        ensures { result ≡ course.may_have_changed (course_of self.now []) }
+    {
+        self.armed && self.changes
+    }
+
+    /// What has come of it, if no results came and nothing was refused.
+    fn resultless(&self) -> Outcome
+        ensures { result ≡ course.resultless (course_of self.now []) }
+    {
+        if self.several {
+            return Outcome::Several;
+        }
+        if self.may_have_changed() {
+            Outcome::Unknown
+        } else {
+            Outcome::NoTag
         }
     }
 
@@ -401,7 +428,7 @@ impl<'a> Course<'a> {
             return Outcome::Reported;
         }
         if let Stage::Lost = self.stage {
-            return if self.armed && self.changes {
+            return if self.may_have_changed() {
                 Outcome::Unknown
             } else {
                 Outcome::Broken
@@ -409,8 +436,7 @@ impl<'a> Course<'a> {
         }
         match self.refused {
             Some(status) => Outcome::Refused(status),
-            None if self.several => Outcome::Several,
-            None => Outcome::NoTag,
+            None => self.resultless(),
         }
     }
 }

@@ -33,7 +33,8 @@ fn antenna_spec(alloc: Global, antenna: u16) -> Result<Node, SpecErr>
     parameter(ParamKind::WholeAiSpec, &[], antennas, parts)
 }
 
-/// The ROReportSpec by which each tag is reported at once, with its antenna and the AccessSpec that was done to it.
+/// The ROReportSpec by which each tag is reported at once, with its antenna and the AccessSpec that was done
+/// to it.
 fn report_spec(alloc: Global) -> Result<Node, SpecErr>
     ensures { IfOk result (λ node. node ≡ inventory.report_spec) }
 {
@@ -48,8 +49,8 @@ fn report_spec(alloc: Global) -> Result<Node, SpecErr>
     )
 }
 
-/// The ROSpec with this id that inventories the C1G2 tags at an antenna, or with 0 at all, from START_ROSPEC until it is stopped or deleted. It
-/// is disabled at first. The error is that memory ran out.
+/// The ROSpec with this id that inventories the C1G2 tags at an antenna, or with 0 at all, from START_ROSPEC
+/// until it is stopped or deleted. It is disabled at first. The error is that memory ran out.
 pub fn inventory_spec(alloc: Global, id: u32, antenna: u16) -> Result<Node, SpecErr>
     ensures { IfOk result (λ node. node ≡ inventory.inventory_spec id antenna) }
 {

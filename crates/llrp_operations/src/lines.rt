@@ -89,7 +89,7 @@ fn push_operation(text: &mut Text, operation: &Operation) -> Result<(), AllocErr
 
 /// The name of what became of an operation: that of its result, or that there is none.
 fn name_of<'a>(operation: &Operation, said: Option<&Node>) -> &'a str
-    ensures { result.now ≡ lines.name_of operation.now (lines.behind said.entry) }
+    ensures { result.now ≡ lines.name_of operation.now (lines.referred said.entry) }
 {
     match said {
         Some(node) => result_name(operation, field_at(node, 0)),
@@ -99,7 +99,7 @@ fn name_of<'a>(operation: &Operation, said: Option<&Node>) -> &'a str
 
 /// The octets of the words that a result gives back.
 fn words_of(said: Option<&Node>) -> &[u8]
-    ensures { result.now ≡ lines.words_of (lines.behind said.entry) }
+    ensures { result.now ≡ lines.words_of (lines.referred said.entry) }
 {
     match said {
         Some(node) => node.tail().as_slice(),
@@ -119,14 +119,14 @@ fn push_words(text: &mut Text, before: &[u8], words: &[u8], after: &[u8]) -> Res
     text.push_text(after)
 }
 
-/// The line of an operation with its result, if it has one: what it does, the result's name, and the words that were read in hexadecimal
-/// digits.
+/// The line of an operation with its result, if it has one: what it does, the result's name, and the words
+/// that were read in hexadecimal digits.
 pub fn result_line(
     alloc: Global,
     operation: &Operation,
     said: Option<&Node>,
 ) -> Result<Text, AllocError>
-    ensures { IfOk result (λ text. text ≡ lines.result_line operation.now (lines.behind said.entry)) }
+    ensures { IfOk result (λ text. text ≡ lines.result_line operation.now (lines.referred said.entry)) }
 {
     let mut text = Text::new(alloc);
     push_operation(&mut text, operation)?;
@@ -153,7 +153,7 @@ fn push_called(
     operation: &Operation,
     said: Option<&Node>,
 ) -> Result<(), AllocError>
-    ensures { OnOk result (text.new ≡ text.old ++ lines.called operation.now (lines.behind said.entry)) }
+    ensures { OnOk result (text.new ≡ text.old ++ lines.called operation.now (lines.referred said.entry)) }
 {
     text.push_text(b",\"result\":\"")?;
     text.push_text(name_of(operation, said).as_bytes())?;
@@ -167,7 +167,7 @@ pub fn result_object(
     operation: &Operation,
     said: Option<&Node>,
 ) -> Result<Text, AllocError>
-    ensures { IfOk result (λ text. text ≡ lines.result_object operation.now (lines.behind said.entry)) }
+    ensures { IfOk result (λ text. text ≡ lines.result_object operation.now (lines.referred said.entry)) }
 {
     let mut text = Text::new(alloc);
     push_what(&mut text, operation)?;

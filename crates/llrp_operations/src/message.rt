@@ -77,7 +77,7 @@ fn message(kind: MsgKind, id: u32, fields: &[u128], children: Vec<Node>) -> Resu
     }
 }
 
-/// One with a number alone.
+/// A message with a number alone.
 fn numbered(alloc: Global, demand: Demand, id: u32) -> Result<Message, SpecErr>
     ensures { IfOk result (λ m. m ≡ messages.numbered demand id) }
 {
@@ -89,7 +89,7 @@ fn numbered(alloc: Global, demand: Demand, id: u32) -> Result<Message, SpecErr>
     )
 }
 
-/// One with a parameter alone.
+/// A message with a parameter alone.
 fn adding(alloc: Global, demand: Demand, spec: Node) -> Result<Message, SpecErr>
     ensures { IfOk result (λ m. m ≡ messages.adding demand spec) }
 {
@@ -99,7 +99,8 @@ fn adding(alloc: Global, demand: Demand, spec: Node) -> Result<Message, SpecErr>
 
 /// The message of a demand.
 fn demand_message(alloc: Global, demand: Demand, request: Request<'_>) -> Result<Message, SpecErr>
-    ensures { IfOk result (λ m. m ≡ messages.demand_message demand request.entry) }
+    ensures { IfOk result (λ m. m
+        ≡ messages.demand_message_to request.entry.epc.now demand request.entry) }
 {
     match demand {
         Demand::ClearAccess | Demand::EnableAccess | Demand::RemoveAccess => {
@@ -120,8 +121,8 @@ fn demand_message(alloc: Global, demand: Demand, request: Request<'_>) -> Result
     }
 }
 
-/// The message of LLRP 1.0.1 that says something: of a request whose ROSpec is the inventory's, and whose EPC is that of the tag that is
-/// meant now ([`Course::target`]). The errors are as of [`access_spec`].
+/// The message of LLRP 1.0.1 that says something: of a request whose ROSpec is the inventory's, and whose EPC
+/// is that of the tag that is meant now ([`Course::target`]). The errors are those of [`access_spec`].
 pub fn message_of(alloc: Global, saying: Saying, request: Request<'_>) -> Result<Message, SpecErr>
     ensures { IfOk result (λ m. m ≡ messages.message_of saying request.entry) }
 {
@@ -147,7 +148,8 @@ fn status_in(kind: ParamKind, nodes: &Nodes) -> u16
     field(kind, first(kind, nodes), 0).min(65_535) as u16
 }
 
-/// The status with which a message answers a demand, if it does: it has the demand's id, and is its response or an ERROR_MESSAGE.
+/// The status with which a message answers a demand, if it does: it has the demand's id, and is its response
+/// or an ERROR_MESSAGE.
 fn answer_in(stage: Stage, message: &Message) -> Option<u16>
     ensures { result ≡ messages.answer_in stage message.now }
 {
@@ -279,8 +281,8 @@ fn hear_attempt(
     }
 }
 
-/// Gives a client a message of its reader, and appends what is said then. The id is that of the AccessSpec. The error is as of
-/// [`Course::hear`].
+/// Gives a client a message of its reader, and appends what is said then. The id is that of the AccessSpec.
+/// The error is that of [`Course::hear`].
 pub fn hear_message(
     alloc: Global,
     course: &mut Course<'_>,

@@ -55,7 +55,8 @@ fn lock_name(number: u128) -> &'static str
     }
 }
 
-/// The name of the Result of an operation (LLRP 1.1, section 16); `Unknown` for a number that the standard has not.
+/// The name of the Result of an operation (LLRP 1.1, section 16); `Unknown` for a number that the standard
+/// does not have.
 pub fn result_name(operation: &Operation, number: u128) -> &'static str
     ensures { result.now ≡ names.result_name operation.now number }
 {

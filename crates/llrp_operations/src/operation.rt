@@ -29,7 +29,7 @@ pub enum LockManner {
 /// An operation on a tag.
 #[derive(Drop)]
 pub enum Operation {
-    /// C1G2Read: so many words from a place on; 0 are all.
+    /// C1G2Read: `count` words from a place on; 0 for all.
     Read {
         bank: Bank,
         pointer: u16,

@@ -57,7 +57,7 @@ pub(crate) fn parameter(
     }
 }
 
-/// One with fields alone.
+/// A parameter with fields alone.
 pub(crate) fn leaf(alloc: Global, kind: ParamKind, fields: &[u128]) -> Result<Node, SpecErr>
     ensures { IfOk result (λ node. node ≡ leaf kind fields.now) }
 {

@@ -34,7 +34,8 @@ pub struct Request<'a> {
     pub operations: &'a [Operation],
 }
 
-/// The tail of a C1G2TargetTag for tags with this EPC: a mask of ones, how many bits the EPC has, and the EPC.
+/// The tail of a C1G2TargetTag for tags with this EPC: a mask of ones, how many bits the EPC has, and the
+/// EPC.
 fn target_tail(alloc: Global, epc: &[u8]) -> Result<Vec<u8>, SpecErr>
     requires { length epc.now ≤ LONGEST_EPC }
     ensures { IfOk result (λ tail. tail.items ≡ operations.target_tail epc.now) }
@@ -137,9 +138,10 @@ fn access_command(alloc: Global, request: Request<'_>) -> Result<Node, SpecErr>
     parameter(ParamKind::WholeAccessCommand, &[], Vec::new(alloc), parts)
 }
 
-/// The AccessSpec of a request. It is disabled at first, is for C1G2 tags that have the EPC in whole, ends after the first of them, and is
-/// reported with the tag. The OpSpecIDs of its operations count from 1. The errors are `Epc` and `Operations` for more of them than an AccessSpec
-/// can have, the first fault of a parameter, as of an AccessSpec without an operation, and `Memory`.
+/// The AccessSpec of a request. It is disabled at first, is for C1G2 tags that have the EPC in whole, ends
+/// after the first of them, and is reported with the tag. The OpSpecIDs of its operations count from 1. The
+/// errors are `Epc` and `Operations` for more of them than an AccessSpec can have, the first fault of a
+/// parameter, as of an AccessSpec without an operation, and `Memory`.
 pub fn access_spec(alloc: Global, request: Request<'_>) -> Result<Node, SpecErr>
     ensures spec { IfOk result (λ node. node ≡ operations.access_spec request.entry) }
     ensures epc { LONGEST_EPC < length request.entry.epc.now → result ≡ Err SpecErr.Epc }

@@ -78,8 +78,9 @@ pub(crate) fn are_of(id: u32, nodes: &[Node]) -> bool
     false
 }
 
-/// Whether TagReportData says that all operations of the AccessSpec with this id were done to the tag: it names that AccessSpec, and has
-/// one result for each operation, in order, which is of its kind, has its OpSpecID, counted from 1, and is 0.
+/// Whether TagReportData says that all operations of the AccessSpec with this id were done to the tag: it
+/// names that AccessSpec, and has one result for each operation, in order, which is of its kind, has its
+/// OpSpecID, counted from 1, and is 0.
 pub fn has_succeeded(id: u32, operations: &[Operation], tag: &Node) -> bool
     ensures { result ≡ results.has_succeeded id operations.now tag.now }
 {

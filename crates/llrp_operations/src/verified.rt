@@ -13,7 +13,7 @@ use crate::results::{has_succeeded, is_result};
 use llrp_tree::Node;
 use std::alloc::Global;
 
-/// The result that comes after so many others among parameters.
+/// The result at a place among the results of these parameters, from 0.
 pub(crate) fn result_at(nodes: &[Node], place: usize) -> Option<&Node>
     ensures { IsHeadAt place (filter results.is_result nodes.now) result }
 {
@@ -29,7 +29,7 @@ pub(crate) fn result_at(nodes: &[Node], place: usize) -> Option<&Node>
     None
 }
 
-/// The result of the operation that comes after so many others, if TagReportData has as many.
+/// The result at a place among those of a TagReportData, from 0, if it has as many.
 pub fn result_of(tag: &Node, place: usize) -> Option<&Node>
     ensures { IsHeadAt place (filter results.is_result (trees tag.now.children)) result }
 {
@@ -44,7 +44,8 @@ fn has_words(alloc: Global, node: &Node, words: &[u16]) -> Result<bool, SpecErr>
     Ok(node.tail().as_slice() == octets.as_slice())
 }
 
-/// Whether TagReportData gives back, after the results of these operations, the words that each of them wrote, in order.
+/// Whether TagReportData gives back, after the results of these operations, the words that each of them
+/// wrote, in order.
 fn are_verified(alloc: Global, operations: &[Operation], tag: &Node) -> Result<bool, SpecErr>
     ensures { IfOk result (λ are. are ≡ is_verified operations.now tag.now) }
 {
@@ -64,9 +65,9 @@ fn are_verified(alloc: Global, operations: &[Operation], tag: &Node) -> Result<b
     Ok(true)
 }
 
-/// Whether TagReportData says that the AccessSpec with this id did all that was asked for. `sent` are its operations: those asked for, and
-/// where it verifies, their checks ([`crate::with_checks`]), whose words then have to be those that were written. The error is that memory
-/// ran out.
+/// Whether TagReportData says that the AccessSpec with this id did all that was asked for. `sent` are its
+/// operations: those asked for, and where it verifies, their checks ([`crate::with_checks`]), whose words
+/// then have to be those that were written. The error is that memory ran out.
 pub fn is_done(
     alloc: Global,
     id: u32,

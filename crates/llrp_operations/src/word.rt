@@ -1,4 +1,5 @@
-//! The words by which a person says an operation: `tid:0:6` of a read, `user:0=1234ABCD` of a write, `user=lock` of a lock.
+//! The words by which a person says an operation: `tid:0:6` of a read, `user:0=1234ABCD` of a write,
+//! `user=lock` of a lock.
 
 ghost use Rattle.std.specs.Prelude.{◌≡◌, ◌≤◌, ◌/◌, ◌%◌, IfErr, IfOk, MatchOption, OnOk, length};
 ghost use Rattle.llrp_listing.specs.Calls.Hexadecimal.{IsHexOf};
@@ -18,7 +19,7 @@ const MOST: u64 = 65_535;
 /// Why a word says no operation.
 #[derive(Clone, Copy, Debug, PartialEq, Eq)]
 pub enum WordErr {
-    /// It has not the colons or the sign of equality that it needs.
+    /// It lacks the colons or the sign of equality that it needs.
     Form,
     /// It names no bank.
     Bank,
@@ -146,8 +147,8 @@ fn words_of_digits(alloc: Global, digits: &[u8]) -> Result<Vec<u16>, WordErr>
     Ok(words)
 }
 
-/// The read that `BANK:WORD:COUNT` says: so many words of the bank, from this one on; 0 are all. BANK is `reserved`, `epc`, `tid` or
-/// `user`. The error is the first of the parts that is not as it has to be.
+/// The read that `BANK:WORD:COUNT` says: COUNT words of the bank, from WORD on; 0 for all. BANK is
+/// `reserved`, `epc`, `tid` or `user`. The error is the first of the parts that is not as it has to be.
 pub fn read_of(text: &[u8]) -> Result<Operation, WordErr>
     ensures read { IfOk result (IsRead text.now) }
     ensures refused { IfErr result (RefusesRead text.now) }
@@ -174,7 +175,8 @@ pub fn read_of(text: &[u8]) -> Result<Operation, WordErr>
     })
 }
 
-/// The write that `BANK:WORD=HEX` says: these words into the bank, from this one on. The errors are as of [`read_of`], and `Memory`.
+/// The write that `BANK:WORD=HEX` says: these words into the bank, from this one on. The errors are those of
+/// [`read_of`], and `Memory`.
 pub fn write_of(alloc: Global, text: &[u8]) -> Result<Operation, WordErr>
     ensures write { IfOk result (IsWrite text.now) }
     ensures refused { IfErr result (RefusesWrite text.now) }
@@ -201,8 +203,8 @@ pub fn write_of(alloc: Global, text: &[u8]) -> Result<Operation, WordErr>
     }
 }
 
-/// The lock that `FIELD=HOW` says. FIELD is `kill`, `access`, `epc`, `tid` or `user`; HOW is `lock`, `unlock`, `permanent-lock` or
-/// `permanent-unlock`. The errors are as of [`read_of`].
+/// The lock that `FIELD=HOW` says. FIELD is `kill`, `access`, `epc`, `tid` or `user`; HOW is `lock`,
+/// `unlock`, `permanent-lock` or `permanent-unlock`. The errors are those of [`read_of`].
 pub fn lock_of(text: &[u8]) -> Result<Operation, WordErr>
     ensures lock { IfOk result (IsLock text.now) }
     ensures refused { IfErr result (RefusesLock text.now) }

@@ -18,7 +18,7 @@ pub struct Transmitter {
     pub transmit_power: u16,
 }
 
-/// What a reader offers to who wants a power.
+/// What a reader offers to a client that wants a power.
 #[derive(Clone, Copy, Debug, PartialEq, Eq)]
 pub enum Offer {
     /// A power that is not above it.
@@ -134,10 +134,9 @@ fn transmitter_of(band: &[Node], entry: PowerEntry) -> Transmitter
     }
 }
 
-/// What a reader with these capabilities offers to who wants at most this power, as a level: the entry
-/// with the greatest power that is not above it; the first hop table where the reader hops, and
-/// channel 1 where it does not. The message is one of the whole standard. The error is that memory ran
-/// out.
+/// What a reader with these capabilities offers to a client that wants at most this power, as a level: the
+/// entry with the greatest power that is not above it; the first hop table where the reader hops, and channel
+/// 1 where it does not. The message is one of the whole standard. The error is that memory ran out.
 pub fn offer_in(alloc: Global, message: &Message, most: u16) -> Result<Offer, AllocError>
     ensures { IfOk result (λ offer. offer ≡ capabilities.offer_in message.now most) }
 {

@@ -1,0 +1,9 @@
+pub mod StretchLemmas
+pub mod StretchRuns
+pub mod StretchSteps
+pub mod StretchTakes
+pub mod SideLemmas
+pub mod PairLemmas
+pub mod SessionLemmas
+pub mod CaptureLemmas
+pub mod LineLemmas

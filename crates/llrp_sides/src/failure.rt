@@ -1,5 +1,7 @@
 //! Why a listing of segments ends early.
 
+ghost use Rattle.std.specs.Prelude.{◌≡◌, IfOk, Ok};
+
 use llrp_capture::{OpenErr, SegmentErr, TakeErr};
 use llrp_listing::ToolErr;
 use std::alloc::AllocError;
@@ -57,14 +59,14 @@ pub enum ShowErr {
 
 /// Why a segment is not taken.
 #[derive(Clone, Copy, Debug, PartialEq, Eq)]
-pub(crate) enum StepErr {
+pub enum StepErr {
     /// The line is at fault.
     Fault(LineFault),
     /// Memory ran out.
     Memory,
 }
 
-/// Of a connection that is not opened.
+/// Why a segment is not taken whose connection is not opened.
 pub(crate) fn of_open(error: OpenErr) -> StepErr {
     match error {
         OpenErr::Full => StepErr::Fault(LineFault::Connections),
@@ -72,7 +74,7 @@ pub(crate) fn of_open(error: OpenErr) -> StepErr {
     }
 }
 
-/// Of a segment that a side does not take.
+/// Why a segment is not taken that its side refuses.
 pub(crate) fn of_take(error: TakeErr) -> StepErr {
     match error {
         TakeErr::Long => StepErr::Fault(LineFault::Octets),
@@ -80,7 +82,7 @@ pub(crate) fn of_take(error: TakeErr) -> StepErr {
     }
 }
 
-/// Of a line that says no segment.
+/// Why no segment is taken from a line that does not say one.
 pub(crate) fn of_segment(error: SegmentErr) -> StepErr {
     match error {
         SegmentErr::Memory => StepErr::Memory,
@@ -88,8 +90,10 @@ pub(crate) fn of_segment(error: SegmentErr) -> StepErr {
     }
 }
 
-/// Of a text that is not written.
-pub(crate) fn of_memory<T>(outcome: Result<T, AllocError>) -> Result<T, StepErr> {
+/// The outcome of writing to a text, which fails only if memory runs out.
+pub(crate) fn of_memory<T>(outcome: Result<T, AllocError>) -> Result<T, StepErr>
+    ensures { IfOk result (λ value. outcome ≡ Ok value) }
+{
     match outcome {
         Ok(value) => Ok(value),
         Err(_) => Err(StepErr::Memory),

@@ -1,7 +1,7 @@
 //! The frames in the octets of a side.
 
 ghost use Rattle.std.specs.Prelude.{◌+◌, ◌<◌, ◌≤◌, length};
-ghost use Rattle.llrp_sides.specs.Private.Fits.{IsFit, IsWithin};
+ghost use Rattle.llrp_sides.specs.Private.Fits.{IsFit, IsNextIn};
 
 use llrp_schema::KindSet;
 use llrp_stream::{Front, front_of};
@@ -14,37 +14,27 @@ pub(crate) enum Next {
     Partial,
     /// A frame of this many octets.
     Frame(usize),
-    /// The header of a frame of this many octets, which is longer than a message may be.
-    Long(u32),
+    /// A frame that is longer than a message may be, or a part of it.
+    Long,
     /// A length field below 10, after which no frame is found.
     Broken,
 }
 
-/// What stands first in octets, where a frame may have `limit` octets.
+/// What stands first in octets, where a message may have `limit` octets.
 pub(crate) fn next_in(octets: &[u8], limit: u32) -> Next
-    ensures { IsWithin octets.now result }
+    ensures { IsNextIn limit octets.now result }
 {
     match front_of(octets) {
         Front::Short => Next::Partial,
         Front::Broken => Next::Broken,
-        Front::Frame(count) if count > limit => {
-            if octets.len() < HEADER_OCTETS {
-                Next::Partial
-            } else {
-                Next::Long(count)
-            }
-        }
-        Front::Frame(count) => {
-            if octets.len() < count as usize {
-                Next::Partial
-            } else {
-                Next::Frame(count as usize)
-            }
-        }
+        Front::Frame(count) if count > limit => Next::Long,
+        Front::Frame(count) if octets.len() < count as usize => Next::Partial,
+        Front::Frame(count) => Next::Frame(count as usize),
     }
 }
 
-/// How many octets the frame has whose header stands first and fits; 0 where it does not, or where less than a header came.
+/// How many octets the frame has whose header stands first and fits; 0 where it does not, or where less than
+/// a header came.
 fn fitting(set: KindSet, limit: u32, octets: &[u8]) -> usize
     ensures { result < 4294967296 }
 {

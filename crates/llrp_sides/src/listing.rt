@@ -1,9 +1,11 @@
 //! The listing of octets.
 
-ghost use Rattle.std.specs.Prelude.{IfOk, IfSome};
+ghost use Rattle.std.specs.Prelude.{◌≡◌, ◌&&◌, IfOk, IfSome};
 ghost use Rattle.llrp_stream.specs.Calls.Device.{CanWrite};
 ghost use Rattle.llrp_listing.specs.Show.{ListedAs};
-ghost use Rattle.llrp_sides.specs.Private.Forms.{HasListing, IsShown, end_shown};
+ghost use Rattle.llrp_sides.specs.Calls.Verdicts.{says_lawful};
+ghost use Rattle.llrp_sides.specs.Calls.Blocks.{IsShown, end_shown};
+ghost use Rattle.llrp_sides.specs.Private.Forms.{HasListing};
 
 use crate::form::Form;
 use llrp_json::list_stream_json;
@@ -37,5 +39,15 @@ pub(crate) fn listing_of(alloc: Global, form: Form, stream: &[u8]) -> Option<(Ve
     match write_listing(alloc, form, stream, &mut text) {
         Ok(verdict) => Some((text.into_inner(), verdict)),
         Err(_) => None,
+    }
+}
+
+/// Whether all is lawful with a listing that has this verdict.
+pub(crate) fn is_lawful_with(before: bool, verdict: Verdict) -> bool
+    ensures { result ≡ (before && says_lawful verdict) }
+{
+    match verdict {
+        Verdict::Lawful => before,
+        Verdict::Faulty => false,
     }
 }

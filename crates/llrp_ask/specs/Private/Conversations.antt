@@ -1,24 +1,21 @@
 -- What the calls of a conversation make of it, whatever came before.
-use Rattle.std.specs.Prelude.{◌≡◌, ◌⊎◌, ℕ, ◌<◌, ◌≤◌, ◌&&◌, if◌then◌else◌, List, [], ◌++◌, length, map, Bool, false, Option, Some, None}
+use Rattle.std.specs.Prelude.{◌≡◌, ◌⊎◌, ℕ, ◌&&◌, if◌then◌else◌, List, [], ◌++◌, map, Bool, false, Option, Some}
 use Rattle.std.specs.List.{list_all}
 use Rattle.llrp_schema.specs.declared.kinds.KindSet.TheVariants.{Standard}
 use Rattle.llrp_tree.specs.declared.TheConstants.{MAX_LIMIT}
 use Rattle.llrp_stream.specs.declared.item.Item.{Item}
-use Rattle.llrp_stream.specs.Cuts.{Breaks, IsPartial, length_field}
 use Rattle.llrp_stream.specs.Device.{SinkLog, SourceLog, Wrote}
 use Rattle.llrp_stream.specs.Items.{IsItemIn, ItemsSoFarIn}
-use Rattle.llrp_stream.specs.Calls.Lengths.{IsLength}
 use Rattle.llrp_listing.specs.declared.outcome.ToolErr.{ToolErr}
-use Rattle.llrp_listing.specs.declared.outcome.ToolErr.TheVariants.{Broken, Early, Memory, Read, Strange, Write}
+use Rattle.llrp_listing.specs.declared.outcome.ToolErr.TheVariants.{Early, Memory, Read, Write}
 use Rattle.llrp_listing.specs.declared.outcome.Verdict.{Verdict}
 use Rattle.llrp_listing.specs.declared.outcome.Verdict.TheVariants.{Lawful, Faulty}
 use Rattle.llrp_listing.specs.Show.{ListedAs}
 use Rattle.llrp_listing.specs.StreamListing.{AreTexts, is_message}
 use Rattle.llrp_ask.specs.declared.conversation.Conversation.{Conversation}
-use Rattle.llrp_ask.specs.declared.conversation.Next.{Next}
-use Rattle.llrp_ask.specs.declared.conversation.Next.TheVariants.{Partial, Frame, Stop}
 use Rattle.llrp_ask.specs.Calls.Asking.{Came, Event, Silence, after, follow, items_of, silences_of}
 use Rattle.llrp_ask.specs.Calls.Courses.{course_of}
+use Rattle.llrp_ask.specs.Calls.Next.{MayStop}
 use Rattle.llrp_ask.specs.Calls.Run.{HasRead, MetEnd, ReadFailed, Stops, stopped}
 use Rattle.llrp_ask.specs.Calls.Shown.{IsShown, end_shown}
 
@@ -40,19 +37,6 @@ pub record TakesFrame (frame : List ℕ) (old new : Conversation) (out0 out1 : L
   pub is_text : IsShown old.form item text
   pub written : Wrote p0 p1 text
   pub lawful : new.lawful ≡ (old.lawful && is_message item)
-
--- why no frame follows in these octets
-abbrev pub MayStop : Option ToolErr → List ℕ → Type 0
-MayStop None rest = IsPartial rest
-MayStop (Some Broken) rest = Breaks rest
-MayStop (Some Strange) rest = MAX_LIMIT < length_field rest
-MayStop (Some _) rest = ⊥
-
--- what comes next in these octets
-abbrev pub IsNextIn : List ℕ → Next → Type 0
-IsNextIn octets Partial = IsPartial octets
-IsNextIn octets (Frame count) = IsLength octets count × (count ≤ length octets)
-IsNextIn octets (Stop error) = MayStop (Some error) octets
 
 -- The frames of these octets before a rest were shown, and led the client on.
 pub record TakesSome (octets rest : List ℕ) (old new : Conversation) (out0 out1 : List ℕ) (p0 p1 : SinkLog) : Type 0 where

@@ -30,7 +30,7 @@ pub record IsRun (pieces : List Piece) (start : ℕ) (octets : List ℕ) : Type 
 pub record IsPlace (here sequence place : ℕ) : Type 0 where
   pub number : place % 4294967296 ≡ sequence
   pub ahead : place < here + 2147483648
-  pub behind : here ≤ place + 2147483648
+  pub after : here ≤ place + 2147483648
 
 -- the octet at a place of a list
 abbrev pub at_place : List (Option ℕ) → ℕ → Option ℕ

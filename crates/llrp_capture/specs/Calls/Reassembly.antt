@@ -37,7 +37,7 @@ Takes Beyond sequence octets old new before after = (place : ℕ) × IsPlace old
 abbrev pub NothingWaits : Reassembly → Type 0
 NothingWaits side = (k : ℕ) → at_place side.waiting.items k ≡ None
 
--- The next octets, so many, did not come. The side goes on after them, as one that begins there, and hands on more.
+-- The next `lost` octets did not come. The side goes on after them, as one that begins there, and hands on more.
 pub record GoesOn (lost : ℕ) (more : List ℕ) (old new : Reassembly) : Type 0 where
   pub none : (k : ℕ) → k < lost → at_place old.waiting.items k ≡ None
   pub stands : (pieces : List Piece) (start : ℕ) (handed : List ℕ) → Stands pieces start handed old → Stands pieces (start + length handed + lost) more new

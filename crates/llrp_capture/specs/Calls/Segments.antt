@@ -27,7 +27,7 @@ is_time text = is_digits (before_first (λ b. b == 46) text) && is_digits (after
 abbrev pub value_of : (radix : ℕ) → List ℕ → ℕ
 value_of radix text = digits_value radix (without_leading_plus text)
 
--- a number of so many bits
+-- a number of at most this many bits
 abbrev pub IsNumber : (radix bits : ℕ) → List ℕ → Type 0
 IsNumber radix bits text = IsNumeral radix (without_leading_plus text) × (value_of radix text < 2 ^ bits)
 

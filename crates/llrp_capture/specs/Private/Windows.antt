@@ -8,7 +8,7 @@ pub record Leads (waiting : List (Option ℕ)) (octets : List ℕ) : Type 0 wher
   pub ends : at_place waiting (length octets) ≡ None
   pub within : length octets ≤ length waiting
 
--- so many places are missing, and the one after them is not; or none came
+-- the first `count` places are missing, and the one after them is not; or no octet came
 abbrev pub AreMissing : List (Option ℕ) → Option ℕ → Type 0
 AreMissing waiting None = (k : ℕ) → at_place waiting k ≡ None
 AreMissing waiting (Some count) = ((k : ℕ) → k < count → at_place waiting k ≡ None) × (count < length waiting) × (at_place waiting count ≢ None)

@@ -27,13 +27,6 @@ taken_lines level (f ∷ fields) place rest = line level f.name f.bits (number r
 
 -- ---- what is read of the part that is refused: its fields up to the one that fails
 
--- the fields of a header before its id, and of the head of a child with type, length and value
-abbrev pub header_head : List NamedBits
-header_head = named (codes "reserved") 3 ∷ named (codes "Version") 3 ∷ named (codes "MessageType") 10 ∷ named (codes "MessageLength") 32 ∷ []
-
-abbrev pub tlv_head : List NamedBits
-tlv_head = named (codes "reserved") 6 ∷ named (codes "ParameterType") 10 ∷ named (codes "ParameterLength") 16 ∷ []
-
 -- of a header
 unfoldable pub header_fields : Reason → List NamedBits
 header_fields Reserved = named (codes "reserved") 3 ∷ []

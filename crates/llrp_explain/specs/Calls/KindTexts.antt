@@ -1,5 +1,5 @@
 -- What the tables say of a kind, as a line of text: its number and name, its fields, the parameters that it may have, and the kinds that it may stand in.
-use Rattle.std.specs.Prelude.{ℕ, zero, suc, ◌^◌, ◌-◌, ◌+◌, List, [], ◌∷◌, ◌++◌, length, map, filter, Bool, not, cond, nat_eq, nat_lt, codes, decimal, Option, Some, None}
+use Rattle.std.specs.Prelude.{ℕ, zero, suc, ◌^◌, ◌-◌, List, [], ◌∷◌, ◌++◌, length, map, filter, cond, nat_eq, nat_lt, codes, decimal, Option, Some, None}
 use Rattle.std.specs.List.{flat_map}
 use Rattle.llrp_schema.specs.declared.kinds.ParamKind.{ParamKind}
 use Rattle.llrp_schema.specs.declared.kinds.Kind.{Kind}

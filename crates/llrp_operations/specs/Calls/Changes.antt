@@ -29,7 +29,7 @@ IsEpcWrite old epc (Read _ _ _) = ⊥
 IsEpcWrite old epc (Write bank pointer words) = (bank ≡ Epc) × (pointer ≡ epc_pointer old epc) × (words_octets words.items ≡ epc_octets old epc)
 IsEpcWrite old epc (Lock _ _) = ⊥
 
--- ---- the result that comes after so many others, if there is one
+-- ---- the result at a place, if there is one
 
 abbrev pub IsHeadAt : ℕ → List Tree → Option (Bor Node) → Type 0
 IsHeadAt place ts None = drop place ts ≡ []

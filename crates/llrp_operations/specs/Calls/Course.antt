@@ -1,5 +1,5 @@
 -- The course of operations on one tag.
-use Rattle.std.specs.Prelude.{ℕ, ◌==◌, ◌&&◌, ◌||◌, not, Bool, true, false, if◌then◌else◌, List, [], ◌∷◌, ◌++◌, Option, Some, None, is_some, option_map, unwrap_or}
+use Rattle.std.specs.Prelude.{◌≡◌, ℕ, ◌==◌, ◌&&◌, ◌||◌, not, Bool, true, false, if◌then◌else◌, List, [], ◌∷◌, ◌++◌, Option, Some, None, is_some, option_map, unwrap_or}
 use Rattle.std.specs.List.{starts_with}
 use Rattle.std.specs.Str.{bytes_eq}
 use Rattle.llrp_operations.specs.declared.course.Course.{Course as Client}
@@ -22,7 +22,7 @@ pub record Course : Type 0 where
   pub seen : Option (List ℕ)  -- the first EPC that the mask selects
   pub several : Bool  -- it selects another one too
   pub refused : Option ℕ  -- the status by which the reader refused something
-  pub armed : Bool  -- ENABLE_ACCESSSPEC was said, and no answer to deleting the AccessSpec was heard after it
+  pub armed : Bool  -- ENABLE_ACCESSSPEC was said
   pub reported : Bool  -- the results came
   pub said : List Saying  -- all that was said
 
@@ -110,7 +110,7 @@ granted EnableInventory c = say StartInventory c
 granted StartInventory c = look c
 granted AddAccess c = say EnableAccess c
 granted EnableAccess c = operate c
-granted RemoveAccess c = say RemoveInventory (record c { armed = false })
+granted RemoveAccess c = say RemoveInventory c
 granted RemoveInventory c = say Close c
 granted Close c = record c { stage = Ended }
 
@@ -144,7 +144,7 @@ stands _ = true
 abbrev pub acknowledge : ℕ → Course → Course
 acknowledge id c = if stands c.stage then record c { said = c.said ++ Acknowledges id ∷ [] } else c
 
--- the results came, of an AccessSpec that was enabled: they are all that is waited for
+-- the results came, of an AccessSpec that was enabled: they are all that is waited for. Those that come late count too.
 abbrev pub finished : Stage → Course → Course
 finished Operating c = say RemoveAccess (record c { reported = true })
 finished _ c = record c { reported = true }
@@ -183,8 +183,22 @@ abbrev pub refused_or : Option ℕ → Outcome → Outcome
 refused_or (Some status) outcome = Refused status
 refused_or None outcome = outcome
 
+-- the reader may have changed a tag without a report: an AccessSpec that changes one was enabled
+abbrev pub may_have_changed : Course → Bool
+may_have_changed c = c.armed && c.changes
+
+-- nothing was refused and no results came
+abbrev pub resultless : Course → Outcome
+resultless c = if c.several then Several else if may_have_changed c then Unknown else NoTag
+
 abbrev pub outcome : Course → Outcome
 outcome c =
     if c.reported then Reported
-    else if is_lost c.stage then (if c.armed && c.changes then Unknown else Broken)
-    else refused_or c.refused (if c.several then Several else NoTag)
+    else if is_lost c.stage then (if may_have_changed c then Unknown else Broken)
+    else refused_or c.refused (resultless c)
+
+-- ---- calls that say nothing
+
+-- nothing more can come
+abbrev pub IsLost : (old new : Client) → Type 0
+IsLost old new = (said : List Saying) → course_of new said ≡ lose (course_of old said)

@@ -11,9 +11,9 @@ use Rattle.llrp_operations.specs.Calls.ResultNames.{result_name}
 use Rattle.llrp_operations.specs.Calls.Results.{field_at}
 use Rattle.llrp_operations.specs.Calls.Words.{bank_name, field_name, manner_name}
 
--- the result behind a reference
-abbrev pub behind : Option (Bor Node) → Option Tree
-behind said = option_map (λ t. t.now) said
+-- the result that a reference is to
+abbrev pub referred : Option (Bor Node) → Option Tree
+referred said = option_map (λ t. t.now) said
 
 -- what an operation does: BANK:WORD:COUNT, BANK:WORD or FIELD=HOW
 abbrev pub place : Bank → ℕ → List ℕ

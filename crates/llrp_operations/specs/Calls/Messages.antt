@@ -20,7 +20,7 @@ use Rattle.llrp_operations.specs.declared.course.Stage.TheVariants.{Asking}
 use Rattle.llrp_operations.specs.declared.request.Request.{Request}
 use Rattle.llrp_operations.specs.Calls.Course.{Course, accept, acknowledge, answer, finish, sees}
 use Rattle.llrp_operations.specs.Calls.Inventory.{inventory_spec}
-use Rattle.llrp_operations.specs.Calls.Operations.{access_spec}
+use Rattle.llrp_operations.specs.Calls.Operations.{access_spec_to}
 use Rattle.llrp_operations.specs.Calls.Results.{are_of, field_at, is_parameter, is_result}
 
 -- ---- what is said
@@ -72,21 +72,26 @@ numbered d id = message (demand_kind d) (demand_id d) (id ∷ []) []
 abbrev pub adding : Demand → Tree → MessageTree
 adding d spec = message (demand_kind d) (demand_id d) [] (spec ∷ [])
 
-abbrev pub demand_message : Demand → Request → MessageTree
-demand_message ClearAccess r = numbered ClearAccess r.id
-demand_message ClearInventory r = numbered ClearInventory r.rospec
-demand_message AddInventory r = adding AddInventory (inventory_spec r.rospec r.antenna)
-demand_message EnableInventory r = numbered EnableInventory r.rospec
-demand_message StartInventory r = numbered StartInventory r.rospec
-demand_message AddAccess r = adding AddAccess (access_spec r)
-demand_message EnableAccess r = numbered EnableAccess r.id
-demand_message RemoveAccess r = numbered RemoveAccess r.id
-demand_message RemoveInventory r = numbered RemoveInventory r.rospec
-demand_message Close r = message (demand_kind Close) (demand_id Close) [] []
+-- the message of a demand, for the tag with this EPC
+abbrev pub demand_message_to : (epc : List ℕ) → Demand → Request → MessageTree
+demand_message_to epc ClearAccess r = numbered ClearAccess r.id
+demand_message_to epc ClearInventory r = numbered ClearInventory r.rospec
+demand_message_to epc AddInventory r = adding AddInventory (inventory_spec r.rospec r.antenna)
+demand_message_to epc EnableInventory r = numbered EnableInventory r.rospec
+demand_message_to epc StartInventory r = numbered StartInventory r.rospec
+demand_message_to epc AddAccess r = adding AddAccess (access_spec_to epc r)
+demand_message_to epc EnableAccess r = numbered EnableAccess r.id
+demand_message_to epc RemoveAccess r = numbered RemoveAccess r.id
+demand_message_to epc RemoveInventory r = numbered RemoveInventory r.rospec
+demand_message_to epc Close r = message (demand_kind Close) (demand_id Close) [] []
+
+-- the message of what is said, for the tag with this EPC
+abbrev pub message_to : (epc : List ℕ) → Saying → Request → MessageTree
+message_to epc (Asks d) r = demand_message_to epc d r
+message_to epc (Acknowledges id) r = message WholeKeepaliveAck id [] []
 
 abbrev pub message_of : Saying → Request → MessageTree
-message_of (Asks d) r = demand_message d r
-message_of (Acknowledges id) r = message WholeKeepaliveAck id [] []
+message_of saying r = message_to r.epc.now saying r
 
 -- ---- what is heard
 

@@ -79,7 +79,10 @@ abbrev pub access_command : (password : ℕ) (epc : List ℕ) → List Operation
 access_command password epc os = with_children WholeAccessCommand [] (tag_spec epc ∷ operation_specs 1 password os)
 
 -- for the air protocol C1G2 (1), disabled (0); it ends after one tag (trigger 1, count 1), and is reported with the tag (0)
-abbrev pub access_spec : Request → Tree
-access_spec r =
+abbrev pub access_spec_to : (epc : List ℕ) → Request → Tree
+access_spec_to epc r =
     with_children WholeAccessSpec (r.id ∷ r.antenna ∷ 1 ∷ 0 ∷ r.rospec ∷ [])
-    (leaf WholeAccessSpecStopTrigger (1 ∷ 1 ∷ []) ∷ access_command r.password r.epc.now r.operations.now ∷ leaf WholeAccessReportSpec (0 ∷ []) ∷ [])
+    (leaf WholeAccessSpecStopTrigger (1 ∷ 1 ∷ []) ∷ access_command r.password epc r.operations.now ∷ leaf WholeAccessReportSpec (0 ∷ []) ∷ [])
+
+abbrev pub access_spec : Request → Tree
+access_spec r = access_spec_to r.epc.now r

@@ -38,3 +38,23 @@ fn two_tags_are_not_changed(rt: HostRuntime) {
     course.lose();
     assert!(rt; course.outcome() == Outcome::Broken);
 }
+
+#[test]
+fn a_change_without_results_is_unknown(rt: HostRuntime) {
+    let mut said = Vec::new(rt.alloc());
+    let Some(mut course) = looking(rt.alloc(), &mut said) else {
+        panic!(rt; "memory ran out");
+    };
+    assert!(rt; course.hear(Heard::Sees(&[1, 2]), &mut said).is_ok());
+    assert!(rt; course.fall_silent(&mut said).is_ok());
+    assert!(rt; course.hear(Heard::Answers(0), &mut said).is_ok());
+    assert!(rt; course.hear(Heard::Answers(0), &mut said).is_ok());
+    assert!(rt; course.stage() == Stage::Operating);
+    assert!(rt; course.fall_silent(&mut said).is_ok());
+    for _ in 0..3 {
+        assert!(rt; course.hear(Heard::Answers(0), &mut said).is_ok());
+    }
+    assert!(rt; course.stage() == Stage::Ended);
+    assert!(rt; course.outcome() == Outcome::Unknown);
+    assert!(rt; !course.is_reported());
+}

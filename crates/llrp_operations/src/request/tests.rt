@@ -3,8 +3,9 @@ use llrp_tree::{MAX_LIMIT, Message, MsgKind, Nodes, Octets, encode_into};
 use std::test::*;
 use tag_memory::Bank;
 
-/// ADD_ACCESSSPEC of AccessSpec 10 for antenna 1, C1G2 and ROSpec 7, which ends after one tag: of the tag with the first EPC, the six words
-/// from word 2 of the EPC bank on are written (LLRP 1.1, sections 12 and 16). The mask has the EPC's 96 bits.
+/// ADD_ACCESSSPEC of AccessSpec 10 for antenna 1, C1G2 and ROSpec 7, which ends after one tag: of the tag
+/// with the first EPC, the six words from word 2 of the EPC bank on are written (LLRP 1.1, sections 12 and
+/// 16). The mask has the EPC's 96 bits.
 const ADDED: [u8; 108] = [
     0x04, 0x28, 0, 0, 0, 0x6c, 0, 0, 0, 3, // the header
     0x00, 0xcf, 0x00, 0x62, 0, 0, 0, 10, 0, 1, 1, 0, 0, 0, 0, 7, // AccessSpec

@@ -1,5 +1,7 @@
 -- What stands first in octets.
 use Rattle.std.specs.Prelude.{ℕ, ◌<◌, ◌≤◌, List, length, ⊤}
+use Rattle.llrp_stream.specs.Cuts.{Breaks, IsPartial, length_field}
+use Rattle.llrp_stream.specs.Calls.Lengths.{IsLength}
 use Rattle.llrp_sides.specs.declared.framing.Fit.{Fit}
 use Rattle.llrp_sides.specs.declared.framing.Fit.TheVariants.{Fits, Differs, Open}
 use Rattle.llrp_sides.specs.declared.framing.Next.{Next}
@@ -11,9 +13,9 @@ IsFit octets (Fits count) = (0 < count) × (count ≤ length octets)
 IsFit octets Differs = ⊤
 IsFit octets Open = ⊤
 
--- a frame is whole, and a header
-abbrev pub IsWithin : List ℕ → Next → Type 0
-IsWithin octets Partial = ⊤
-IsWithin octets (Frame count) = (0 < count) × (count ≤ length octets)
-IsWithin octets (Long count) = (10 ≤ count) × (10 ≤ length octets)
-IsWithin octets Broken = ⊤
+-- the length field says it, where a message may have so many octets
+abbrev pub IsNextIn : (limit : ℕ) → List ℕ → Next → Type 0
+IsNextIn limit octets Partial = IsPartial octets
+IsNextIn limit octets (Frame count) = IsLength octets count × (count ≤ length octets)
+IsNextIn limit octets Long = IsLength octets (length_field octets) × (limit < length_field octets)
+IsNextIn limit octets Broken = Breaks octets

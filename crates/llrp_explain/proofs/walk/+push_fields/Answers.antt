@@ -1,4 +1,4 @@
-use Rattle.std.proofs.Common.{map, ap, ◌∙◌}
+use Rattle.std.proofs.Common.{map, ap}
 use Rattle.llrp_schema.specs.Calls.Schema.{field_rule}
 use Rattle.llrp_tree.proofs.SpellingLemmas.{none_below}
 use Rattle.llrp_explain.proofs.WalkLemmas.{no_fields, reserved_added, plain_added, rules_first}

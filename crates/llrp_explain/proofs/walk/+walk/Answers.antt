@@ -1,4 +1,4 @@
-use Rattle.std.proofs.Common.{rules, suc, [], refl, ◌+◌, ap, sym, ◌∙◌, arith}
+use Rattle.std.proofs.Common.{[], refl, ◌+◌, ap, ◌∙◌, arith}
 use Rattle.llrp_schema.specs.declared.kinds.ParamKind.{ParamKind}
 use Rattle.llrp_schema.specs.declared.kinds.Kind.TheVariants.{Parameter}
 use Rattle.llrp_schema.specs.Schema.{fields_of, tail_of}

@@ -1,0 +1,177 @@
+//! Does to one tag what an errand says, and prints what became of each operation.
+
+ghost use Rattle.std.specs.Prelude.{◌≡◌, ◌++◌, IfOk, OnOk};
+ghost use Rattle.llrp_stream.specs.Device.{IsFreshSink, IsFreshSource};
+ghost use Rattle.llrp_stream.specs.Calls.Device.{CanWrite};
+ghost use Rattle.llrp_operations.specs.Calls.Access as accesses;
+ghost use Rattle.llrp_operations.specs.Calls.Lines.{referred};
+ghost use Rattle.llrp_operations.specs.Private.Endings.{Concludes};
+
+use crate::course::Outcome;
+use crate::lines::{result_line, result_object};
+use crate::message::has_results;
+use crate::operation::Operation;
+use crate::parameters::SpecErr;
+use crate::request::Request;
+use crate::talk::{Patience, operate};
+use crate::verified::{is_done, result_of};
+use llrp_ask::TimedSource;
+use llrp_listing::{Text, ToolErr, write_all};
+use llrp_stream::Sink;
+use llrp_tree::{Message, Node};
+use std::alloc::{AllocError, Global};
+
+/// What is to be done to a tag.
+#[derive(Clone, Copy)]
+pub struct Errand<'a> {
+    /// What is sent: its operations are those asked for and, where it verifies, their checks.
+    pub request: Request<'a>,
+    pub asked: &'a [Operation],
+    /// The words that are read back have to be those that were written.
+    pub verifies: bool,
+    /// Results are printed as objects of JSON.
+    pub json: bool,
+}
+
+/// What came of it.
+#[derive(Clone, Copy, Debug, PartialEq, Eq)]
+pub enum Ending {
+    /// All was done.
+    Done,
+    /// Results came, and not all was done.
+    Undone,
+    /// The reader refused something with this status; nothing was done.
+    Refused(u16),
+    /// More than one tag was there that might be meant; nothing was done.
+    Several,
+    /// No tag came, and none was changed.
+    NoTag,
+    /// No results came: the tag may have been changed, or not.
+    Unknown,
+    /// The connection was lost, for this reason; nothing was changed.
+    Broken(ToolErr),
+}
+
+/// The tag whose results came first in a message.
+fn tag_in(id: u32, report: &Message) -> Option<&Node>
+    ensures { referred result ≡ accesses.tag_in id report.now }
+{
+    report
+        .children()
+        .as_slice()
+        .iter()
+        .find(|node| has_results(id, node))
+}
+
+/// The same, if there is a message.
+fn tag_of(id: u32, report: &Option<Message>) -> Option<&Node>
+    ensures { referred result ≡ accesses.tag_of id report.now }
+{
+    match report {
+        Some(report) => tag_in(id, report),
+        None => None,
+    }
+}
+
+/// The line of an operation, or its object.
+fn line_of(
+    alloc: Global,
+    json: bool,
+    operation: &Operation,
+    said: Option<&Node>,
+) -> Result<Text, AllocError>
+    ensures { IfOk result (λ text. text
+        ≡ accesses.line_of json operation.now (referred said.entry)) }
+{
+    if json {
+        result_object(alloc, operation, said)
+    } else {
+        result_line(alloc, operation, said)
+    }
+}
+
+/// The lines of operations, each with its result.
+fn lines_of(
+    alloc: Global,
+    json: bool,
+    operations: &[Operation],
+    tag: &Node,
+) -> Result<Vec<u8>, AllocError>
+    ensures { IfOk result (λ lines. lines.items
+        ≡ accesses.lines_of json operations.now (accesses.results_of tag.now)) }
+{
+    let mut lines = Vec::new(alloc);
+    for (place, operation) in operations.iter().enumerate() {
+        let line = line_of(alloc, json, operation, result_of(tag, place))?;
+        lines.extend_from_slice(line.as_slice())?;
+    }
+    Ok(lines)
+}
+
+/// Whether a tag did all that was asked.
+fn judge(alloc: Global, errand: Errand<'_>, tag: &Node) -> Result<Ending, ToolErr>
+    ensures { IfOk result (λ ending. ending ≡ accesses.judged errand.entry tag.now) }
+{
+    let request = errand.request;
+    let (id, sent) = (request.id, request.operations);
+    match is_done(alloc, id, errand.asked, sent, errand.verifies, tag) {
+        Ok(true) => Ok(Ending::Done),
+        Ok(false) => Ok(Ending::Undone),
+        Err(SpecErr::Memory) => Err(ToolErr::Memory),
+        Err(_) => Err(ToolErr::Bound),
+    }
+}
+
+/// What came of it where there are no results.
+fn ending_of(outcome: Outcome, cause: ToolErr) -> Ending
+    ensures { result ≡ accesses.ending_of outcome cause }
+{
+    match outcome {
+        Outcome::Reported => Ending::Undone,
+        Outcome::Refused(status) => Ending::Refused(status),
+        Outcome::Several => Ending::Several,
+        Outcome::NoTag => Ending::NoTag,
+        Outcome::Unknown => Ending::Unknown,
+        Outcome::Broken => Ending::Broken(cause),
+    }
+}
+
+/// Prints the results of a tag, and says whether it did all that was asked.
+fn conclude<P: Sink>(
+    alloc: Global,
+    errand: Errand<'_>,
+    tag: &Node,
+    p: &mut P,
+) -> Result<Ending, ToolErr>
+    requires { CanWrite (P.log p.old) }
+    ensures { IfOk result (Concludes errand.entry tag.now (P.log p.old) (P.log p.new)) }
+{
+    let lines = lines_of(alloc, errand.json, errand.request.operations, tag)?;
+    write_all(p, lines.as_slice())?;
+    judge(alloc, errand, tag)
+}
+
+/// Does to a tag what an errand says, by the reader whose octets the source gives, beginning with the message
+/// that it sends by itself. What the client says is written to `w`, and the lines of the results to `p`.
+///
+/// The errors are those of [`operate`], and `Write` if the lines could not be written.
+pub fn run_access<R: TimedSource, W: Sink, P: Sink>(
+    alloc: Global,
+    errand: Errand<'_>,
+    patience: Patience,
+    r: &mut R,
+    w: &mut W,
+    p: &mut P,
+) -> Result<Ending, ToolErr>
+    requires source { IsFreshSource (R.log r.old) }
+    requires sink { IsFreshSink (W.log w.old) }
+    requires shown { IsFreshSink (P.log p.old) }
+    ensures { IfOk result (accesses.Accesses errand.entry (R.log r.old) (R.log r.new) (W.log w.old)
+        (W.log w.new) (P.log p.old) (P.log p.new)) }
+{
+    let talked = operate(alloc, errand.request, patience, r, w)?;
+    match tag_of(errand.request.id, &talked.report) {
+        Some(tag) => conclude(alloc, errand, tag, p),
+        None => Ok(ending_of(talked.outcome, talked.cause)),
+    }
+}
