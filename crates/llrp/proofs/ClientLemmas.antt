@@ -1,5 +1,5 @@
 -- How clients are served one after another.
-use Rattle.std.proofs.Common.{◌≡◌, ℕ, ◌+◌, ◌<◌, ◌≤◌, ◌==◌, Bool, true, false, List, Option, Some, None, Ok, Err, refl, sym, ap, subst, ◌∙◌, inl, inr, arith}
+use Rattle.std.proofs.Common.{◌≡◌, ℕ, ◌<◌, ◌≤◌, Bool, true, false, List, Some, None, Ok, Err, refl, sym, ap, subst, ◌∙◌, inl, inr}
 use Rattle.std.specs.Prelude.{Result}
 use Rattle.llrp_stream.specs.Device.{SinkLog}
 use Rattle.llrp_listing.specs.declared.outcome.ToolErr.{ToolErr}
@@ -8,7 +8,7 @@ use Rattle.llrp_endpoints.specs.declared.script.Entry.{Entry}
 use Rattle.llrp_commands.specs.Calls.Command.{Answers, fine_status}
 use Rattle.llrp.specs.Calls.Network.{Concludes, ServesSo}
 use Rattle.llrp_commands.specs.declared.arguments.sim_words.SimWords.{SimWords}
-use Rattle.llrp.specs.Calls.Clients.{FailsToSay, IsGreater, MaySay, SaysReady, ServedClients, ServesAt, ServesClients, listens_on, most_clients, none, one_more}
+use Rattle.llrp.specs.Calls.Clients.{FailsToSay, IsGreater, IsPortOf, MaySay, SaysReady, ServedClients, ServesAt, ServesClients, listens_on, most_clients, none, one_more}
 
 -- ---- no write has failed
 
@@ -49,22 +49,22 @@ all_served all entries most n status e0 e1 same served = inl (status, subst (λ 
 
 -- ---- where it listens, and that it says so
 
-pub says_not : (words : SimWords) (entries : List Entry) (e0 e1 : SinkLog) (address : List ℕ) (fault : ToolErr) → words.ready ≡ true → address ≡ listens_on words.bind → SaysReady address words.port e0 e1 (Err fault) → ServesAt words entries e0 e1 (Err fault)
-says_not words entries e0 e1 address fault ready same is =
-    let fails : FailsToSay true (listens_on words.bind) words.port e0 e1 (Err fault) = (fault, subst (λ (a : List ℕ). SaysReady a words.port e0 e1 (Err fault)) same is, refl) in
-    inr (inl (subst (λ (b : Bool). FailsToSay b (listens_on words.bind) words.port e0 e1 (Err fault)) (sym ready) fails))
+pub says_not : (words : SimWords) (entries : List Entry) (e0 e1 : SinkLog) (address : List ℕ) (port : ℕ) (fault : ToolErr) → words.ready ≡ true → address ≡ listens_on words.bind → IsPortOf words.port port → SaysReady address port e0 e1 (Err fault) → ServesAt words entries e0 e1 (Err fault)
+says_not words entries e0 e1 address port fault ready same of is =
+    let fails : FailsToSay true (listens_on words.bind) port e0 e1 (Err fault) = (fault, subst (λ (a : List ℕ). SaysReady a port e0 e1 (Err fault)) same is, refl) in
+    inr (inl (port, of, subst (λ (b : Bool). FailsToSay b (listens_on words.bind) port e0 e1 (Err fault)) (sym ready) fails))
 
-goes_on : (words : SimWords) (entries : List Entry) (e0 e e1 : SinkLog) (most : ℕ) (answer : Result ℕ ToolErr) → MaySay words.ready (listens_on words.bind) words.port e0 e → most ≡ most_clients words.clients → ServesClients words.all entries most e e1 answer
+goes_on : (words : SimWords) (entries : List Entry) (e0 e e1 : SinkLog) (port most : ℕ) (answer : Result ℕ ToolErr) → IsPortOf words.port port → MaySay words.ready (listens_on words.bind) port e0 e → most ≡ most_clients words.clients → ServesClients words.all entries most e e1 answer
     → ServesAt words entries e0 e1 answer
-goes_on words entries e0 e e1 most answer said many serves = inr (inr (e, said, subst (λ (n : ℕ). ServesClients words.all entries n e e1 answer) many serves))
+goes_on words entries e0 e e1 port most answer of said many serves = inr (inr (port, e, of, said, subst (λ (n : ℕ). ServesClients words.all entries n e e1 answer) many serves))
 
-pub says : (words : SimWords) (entries : List Entry) (e0 e e1 : SinkLog) (address : List ℕ) (most : ℕ) (answer : Result ℕ ToolErr) → words.ready ≡ true → address ≡ listens_on words.bind → SaysReady address words.port e0 e (Ok tt) → most ≡ most_clients words.clients
+pub says : (words : SimWords) (entries : List Entry) (e0 e e1 : SinkLog) (address : List ℕ) (port most : ℕ) (answer : Result ℕ ToolErr) → words.ready ≡ true → address ≡ listens_on words.bind → IsPortOf words.port port → SaysReady address port e0 e (Ok tt) → most ≡ most_clients words.clients
     → ServesClients words.all entries most e e1 answer → ServesAt words entries e0 e1 answer
-says words entries e0 e e1 address most answer ready same is many serves =
-    let said : MaySay true (listens_on words.bind) words.port e0 e = subst (λ (a : List ℕ). SaysReady a words.port e0 e (Ok tt)) same is in
-    goes_on words entries e0 e e1 most answer (subst (λ (b : Bool). MaySay b (listens_on words.bind) words.port e0 e) (sym ready) said) many serves
+says words entries e0 e e1 address port most answer ready same of is many serves =
+    let said : MaySay true (listens_on words.bind) port e0 e = subst (λ (a : List ℕ). SaysReady a port e0 e (Ok tt)) same is in
+    goes_on words entries e0 e e1 port most answer of (subst (λ (b : Bool). MaySay b (listens_on words.bind) port e0 e) (sym ready) said) many serves
 
 pub is_silent : (words : SimWords) (entries : List Entry) (e0 e1 : SinkLog) (most : ℕ) (answer : Result ℕ ToolErr) → words.ready ≡ false → most ≡ most_clients words.clients → ServesClients words.all entries most e0 e1 answer → ServesAt words entries e0 e1 answer
 is_silent words entries e0 e1 most answer ready many serves =
     let said : MaySay false (listens_on words.bind) words.port e0 e0 = refl in
-    goes_on words entries e0 e0 e1 most answer (subst (λ (b : Bool). MaySay b (listens_on words.bind) words.port e0 e0) (sym ready) said) many serves
+    goes_on words entries e0 e0 e1 words.port most answer (inr refl) (subst (λ (b : Bool). MaySay b (listens_on words.bind) words.port e0 e0) (sym ready) said) many serves

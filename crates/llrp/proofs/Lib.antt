@@ -1,6 +1,9 @@
+pub mod AccessLemmas
 pub mod AskLemmas
 pub mod ClientLemmas
+pub mod LabelLemmas
 pub mod NetworkLemmas
 pub mod PlanLemmas
+pub mod RefusalLemmas
 pub mod WatchLemmas
 pub mod WholeFrameLemmas

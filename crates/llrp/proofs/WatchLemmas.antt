@@ -17,6 +17,8 @@ use Rattle.llrp.specs.Calls.Network.{unnumbered}
 use Rattle.std.specs.Io.KnownBytes.{Appends}
 use Rattle.llrp_endpoints.specs.declared.form.LineForm.{LineForm}
 use Rattle.llrp_endpoints.specs.MarkedLines.{AreMarked}
+use Rattle.llrp_labels.specs.declared.labels.Labels.{Labels}
+use Rattle.llrp.specs.Calls.Labels.{AreLabelledLines}
 use Rattle.llrp.specs.Calls.Watch.Prints.{one_more}
 use Rattle.llrp.specs.Calls.Watch.{FollowsLasting, FollowsStop, Prints, PrintsMessages, PrintsTo}
 use Rattle.llrp_endpoints.specs.ReportedTags.{AreTagsOfStream}
@@ -43,18 +45,19 @@ pieces_more : (before : List Turn) (t : Turn) → pieces_of before ++ t.piece �
 pieces_more before t = ap (λ (x : List ℕ). pieces_of before ++ x) (sym (append-nil t.piece)) ∙ sym (flat_map-append (λ (u : Turn). u.piece) before (t ∷ []))
 
 -- a printer that was told of a turn, and appended the lines of the tags in its piece
-pub prints_more : (old new : TagLister) (name : Option (List ℕ)) (o0 o1 : Option (List ℕ)) (t : Turn) (micros : ℕ) (lines text : List ℕ) → TakesTags t.piece old new [] lines → new.form ≡ old.form → AreMarked old.form micros name lines text → Appends o0 o1 text
-    → (base : SinkLog) (before : List Turn) → PrintsTo old name o0 base before → PrintsTo new name o1 base (before ++ t ∷ [])
-prints_more old new name o0 o1 t micros lines text takes same marked appends base before p =
+pub prints_more : (old new : TagLister) (labels : Option Labels) (name : Option (List ℕ)) (o0 o1 : Option (List ℕ)) (t : Turn) (micros : ℕ) (lines labelled text : List ℕ) → TakesTags t.piece old new [] lines → new.form ≡ old.form
+    → AreLabelledLines labels old.form lines labelled → AreMarked old.form micros name labelled text → Appends o0 o1 text → (base : SinkLog) (before : List Turn) → PrintsTo old labels name o0 base before → PrintsTo new labels name o1 base (before ++ t ∷ [])
+prints_more old new labels name o0 o1 t micros lines labelled text takes same with_labels marked appends base before p =
     let limit : ℕ = old.decoder.limit in
     let took = takes limit (pieces_of before) p.0 p.1 in
     let has : HasTags limit (pieces_of (before ++ t ∷ [])) (p.0 ++ took.0) new = subst (λ (x : List ℕ). HasTags limit x (p.0 ++ took.0) new) (pieces_more before t) took.2 in
     let are : AreTagsOfStream old.form limit (pieces_of (before ++ t ∷ [])) (p.0 ++ took.0) = subst (λ (x : List ℕ). AreTagsOfStream old.form limit x (p.0 ++ took.0)) (pieces_more before t) (subst (λ (f : LineForm). AreTagsOfStream f limit (pieces_of before ++ t.piece) (p.0 ++ took.0)) same took.3) in
-    let printed : Prints old.form limit name base.taken (before ++ t ∷ []) (p.0 ++ took.0) o1 = one_more before p.0 o0 t took.0 micros text o1 p.2 are (subst (λ (x : List ℕ). AreMarked old.form micros name x text) took.1 marked) appends in (
+    let printed : Prints old.form limit labels name base.taken (before ++ t ∷ []) (p.0 ++ took.0) o1 =
+    one_more before p.0 o0 t took.0 labelled micros text o1 p.2 are (subst (λ (x : List ℕ). AreLabelledLines labels old.form x labelled) took.1 with_labels) marked appends in (
       p.0 ++ took.0,
       subst (λ (n : ℕ). HasTags n (pieces_of (before ++ t ∷ [])) (p.0 ++ took.0) new) (sym has.limit_is) has,
-      subst (λ (n : ℕ). Prints new.form n name base.taken (before ++ t ∷ []) (p.0 ++ took.0) o1) (sym has.limit_is)
-          (subst (λ (f : LineForm). Prints f limit name base.taken (before ++ t ∷ []) (p.0 ++ took.0) o1) (sym same) printed),
+      subst (λ (n : ℕ). Prints new.form n labels name base.taken (before ++ t ∷ []) (p.0 ++ took.0) o1) (sym has.limit_is)
+          (subst (λ (f : LineForm). Prints f limit labels name base.taken (before ++ t ∷ []) (p.0 ++ took.0) o1) (sym same) printed),
     )
 
 -- a printer of messages that was told of a turn, and appended the lines of its piece

@@ -28,7 +28,7 @@ const REFUSED: u8 = 1;
 /// Why there are no messages.
 #[derive(Clone, Copy, Debug, PartialEq, Eq)]
 pub enum NoAccess {
-    /// The file cannot be opened, or not read.
+    /// The file cannot be opened or read.
     Unread,
     /// Its text is refused, or memory ran out.
     Text(TextErr),
@@ -52,21 +52,22 @@ fn is_on_access(message: &Message) -> bool
     adds || enables || disables || deletes
 }
 
-/// How many messages come before the first that does none of these, if one does not.
+/// How many messages come before the first one that does none of these, if there is such a message.
 fn first_other(messages: &[Message]) -> Option<usize>
     ensures { result ≡ first_other messages.now }
 {
     messages.iter().position(|message| !is_on_access(message))
 }
 
-/// How many more messages come before one, after an octet that begins one or does not.
+/// How many messages still come before the one that is looked for, after an octet that begins a message or
+/// does not.
 fn left_after(left: usize, begins: bool) -> usize
     ensures { result ≡ left_after left begins }
 {
     if begins { left.saturating_sub(1) } else { left }
 }
 
-/// How many octets of a listing stand before the line of the message that comes after so many others.
+/// How many octets of a listing stand before the line of the message that comes after this many others.
 fn message_start(text: &[u8], before: usize) -> usize
     ensures start { result ≡ message_start before true text.now }
     ensures within { result ≤ length text.now }
@@ -92,7 +93,7 @@ fn count_lines(text: &[u8]) -> usize
     text.iter().filter(|octet| **octet == b'\n').count()
 }
 
-/// The number, counted from 1, of the line of the message that comes after so many others.
+/// The number, counted from 1, of the line of the message that comes after this many others.
 fn message_line(text: &[u8], before: usize) -> u64
     ensures { result ≡ message_line before text.now }
 {
@@ -100,9 +101,10 @@ fn message_line(text: &[u8], before: usize) -> u64
     count_lines(text.split_at(start).0) as u64 + 1
 }
 
-/// The messages of a text, as they are sent beside a plan: they are whole messages of the standard, as `show --all` prints them, and each
-/// adds, enables, disables or deletes AccessSpecs. The errors are the first line that is refused, with the reason, or else the line of the
-/// first other message, with `Name`; and `Memory`.
+/// The messages of a text, as they are sent beside a plan: they are whole messages of the standard, as
+/// `show --all` prints them, and each adds, enables, disables or deletes AccessSpecs. The errors are the
+/// first line that is refused, with the reason, or else the line of the first other message, with `Name`; and
+/// `Memory`.
 pub fn asides_of(alloc: Global, text: &[u8]) -> Result<AsideMessages, TextErr>
     ensures asides { IfOk result (λ a. ListsAsides text.now (asides_in (Some a))) }
     ensures refused { IfErr result (RefusesAsides text.now) }
@@ -174,7 +176,8 @@ impl Access {
     }
 }
 
-/// The plan with the messages beside it, if there are some. The only error is `Memory`, since the text was read before.
+/// The plan with the messages beside it, if there are some. The only error is `Memory`, since the text was
+/// read before.
 pub fn saying(alloc: Global, plan: Plan, access: Option<&Access>) -> Result<Plan, NoPlan>
     ensures plan { IfOk result (Says plan (text_of access.entry)) }
     ensures memory { IfErr result (λ e. e ≡ NoPlan.Memory) }
@@ -232,8 +235,8 @@ fn answers_access(message: &Message) -> bool
     adds || enables || disables
 }
 
-/// With which status a reader refuses to add, enable or disable an AccessSpec, if this message does that. That there is none to be
-/// deleted is no refusal: it may have ended by its count.
+/// With which status a reader refuses to add, enable or disable an AccessSpec, if this message does that.
+/// That there is none to be deleted is no refusal: it may have ended by its count.
 pub fn refused_status(message: &Message) -> Option<u16>
     ensures { result ≡ refused_status message.now }
 {

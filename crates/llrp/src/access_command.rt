@@ -1,20 +1,21 @@
 //! The command `access`: reads, writes or locks one tag.
 
+ghost use Rattle.std.specs.Prelude.{◌≡◌, IfOk};
 ghost use Rattle.llrp_stream.specs.Calls.Device.{CanWrite};
+ghost use Rattle.llrp_stream.specs.Device.{IsFreshSink, Wrote};
+ghost use Rattle.llrp.specs.Calls.AccessEnding.{AccessesReader, SaysEnding};
 
-use crate::access_errand::{Errand, NoErrand, OWN_ID, OperationTexts, errand_of};
-use crate::access_talk::{Patience, Talked, operate};
+use crate::access_errand::{NoErrand, OperationTexts, errand_of};
 use crate::address::Address;
 use crate::connecting::connect;
 use crate::network::{FAILED, conclude};
+use crate::timed::Timed;
 use llrp_commands::{AccessWords, USAGE, answer, texts_asked};
 use llrp_listing::{ToolErr, write_all};
-use llrp_operations::{
-    Outcome, SpecErr, WordErr, has_results, is_done, result_line, result_object, result_of,
-};
+use llrp_operations::{Ending, Errand, Patience, WordErr, run_access};
 use llrp_stream::{Output, Sink};
-use llrp_tree::{Message, Node};
 use std::alloc::{AllocError, Global};
+use std::net::TcpStream;
 use std::time::Duration;
 
 /// For how many seconds further tags are waited for before a change, where nothing is said of it.
@@ -22,6 +23,9 @@ const SETTLE: u16 = 1;
 
 /// For how many seconds a tag and each answer are waited for, where nothing is said of it.
 const TIMEOUT: u16 = 10;
+
+/// The exit status if all was done.
+const DONE: u8 = 0;
 
 /// The exit status if the tag was not operated on as asked.
 const UNDONE: u8 = 1;
@@ -75,80 +79,54 @@ fn refuse_errand<E: Sink>(no_errand: NoErrand, errors: &mut E) -> Result<u8, Too
     Ok(USAGE)
 }
 
-/// The tag with the results.
-fn tag_in(report: &Message) -> Option<&Node> {
-    report
-        .children()
-        .as_slice()
-        .iter()
-        .find(|node| has_results(OWN_ID, node))
+/// Writes a line, and returns the exit status that goes with it.
+fn say<E: Sink>(line: &[u8], status: u8, errors: &mut E) -> Result<u8, ToolErr>
+    requires { CanWrite (E.log errors.old) }
+    ensures { IfOk result (λ s. (s ≡ status) × Wrote (E.log errors.old) (E.log errors.new) line.now) }
+{
+    write_all(errors, line)?;
+    Ok(status)
 }
 
-/// Writes the lines of results to standard output.
-fn print_results(rt: &HostRuntime, errand: &Errand, json: bool, tag: &Node) -> Result<(), ToolErr> {
-    let alloc = rt.alloc();
-    for (place, operation) in errand.sent().iter().enumerate() {
-        let said = result_of(tag, place);
-        let line = if json {
-            result_object(alloc, operation, said)?
-        } else {
-            result_line(alloc, operation, said)?
-        };
-        write_all(&mut Output::new(rt.stdout()), line.as_slice())?;
-    }
-    Ok(())
-}
-
-/// Whether a tag did what was asked.
-fn did_all(alloc: Global, errand: &Errand, verify: bool, tag: &Node) -> Result<bool, ToolErr> {
-    match is_done(alloc, OWN_ID, errand.asked(), errand.sent(), verify, tag) {
-        Ok(done) => Ok(done),
-        Err(_) => Err(ToolErr::Memory),
+/// Says what came of it in a line, if not all was done, and returns the exit status.
+#[tactic(auto, using(llrp_stream::proofs::WritingLemmas::wrote_nothing))]
+pub fn say_ending<E: Sink>(ending: Ending, errors: &mut E) -> Result<u8, ToolErr>
+    requires { CanWrite (E.log errors.old) }
+    ensures { IfOk result (SaysEnding ending (E.log errors.old) (E.log errors.new)) }
+{
+    match ending {
+        Ending::Done => Ok(DONE),
+        Ending::Undone => say(b"llrp: not done\n", UNDONE, errors),
+        Ending::Several => say(b"llrp: several tags\n", UNDONE, errors),
+        Ending::NoTag => say(b"llrp: no tag\n", UNDONE, errors),
+        Ending::Unknown => say(b"llrp: unknown, read again\n", UNKNOWN, errors),
+        Ending::Refused(status) => answer(Err(ToolErr::Peer(status)), errors),
+        Ending::Broken(cause) => answer(Err(cause), errors),
     }
 }
 
-/// Prints what a tag did, and returns the exit status.
-fn judge(
+/// Does to a tag what an errand says, by the reader at the other end of the stream. Writes the lines of the
+/// results to `shown`.
+pub fn access_reader<P: Sink>(
     rt: &HostRuntime,
-    errand: &Errand,
-    words: AccessWords<'_>,
-    tag: &Node,
-) -> Result<u8, ToolErr> {
-    let mut errors = Output::new(rt.stderr());
-    print_results(rt, errand, words.json, tag)?;
-    if did_all(rt.alloc(), errand, words.verify, tag)? {
-        return Ok(0);
-    }
-    write_all(&mut errors, b"llrp: not done\n")?;
-    Ok(UNDONE)
+    stream: &TcpStream,
+    errand: Errand<'_>,
+    patience: Patience,
+    shown: &mut P,
+) -> Result<Ending, ToolErr>
+    requires { IsFreshSink (P.log shown.old) }
+    ensures { IfOk result (AccessesReader errand.entry (P.log shown.old) (P.log shown.new)) }
+{
+    let mut source = Timed::new(rt, stream);
+    let mut sink = Output::new(stream);
+    run_access(rt.alloc(), errand, patience, &mut source, &mut sink, shown)
 }
 
-/// Says what came of it, and returns the exit status.
-fn end(
-    rt: &HostRuntime,
-    errand: &Errand,
-    words: AccessWords<'_>,
-    talked: &Talked,
-) -> Result<u8, ToolErr> {
-    let mut errors = Output::new(rt.stderr());
-    if let Some(tag) = talked.report.as_ref().and_then(|report| tag_in(report)) {
-        return judge(rt, errand, words, tag);
-    }
-    match talked.outcome {
-        Outcome::Refused(status) => answer(Err(ToolErr::Peer(status)), &mut errors),
-        Outcome::Several => {
-            write_all(&mut errors, b"llrp: several tags\n")?;
-            Ok(UNDONE)
-        }
-        Outcome::NoTag | Outcome::Reported => {
-            write_all(&mut errors, b"llrp: no tag\n")?;
-            Ok(UNDONE)
-        }
-        Outcome::Unknown => {
-            write_all(&mut errors, b"llrp: unknown, read again\n")?;
-            Ok(UNKNOWN)
-        }
-        Outcome::Broken => answer(Err(talked.cause), &mut errors),
+/// For how long the words wait.
+fn patience_of(words: AccessWords<'_>) -> Patience {
+    Patience {
+        settle: words.settle.unwrap_or(SETTLE),
+        timeout: words.timeout.unwrap_or(TIMEOUT),
     }
 }
 
@@ -160,20 +138,18 @@ pub fn access(
     texts: &OperationTexts<'_>,
 ) -> Result<u8, ToolErr> {
     let mut errors = Output::new(rt.stderr());
-    let errand = match errand_of(rt, words, texts) {
-        Ok(errand) => errand,
+    let asked = match errand_of(rt, words, texts) {
+        Ok(asked) => asked,
         Err(no_errand) => return refuse_errand(no_errand, &mut errors),
     };
-    let patience = Patience {
-        settle: words.settle.unwrap_or(SETTLE),
-        timeout: words.timeout.unwrap_or(TIMEOUT),
-    };
+    let patience = patience_of(words);
     let limit = Duration::from_secs(patience.timeout as u64);
     let Some(stream) = connect(rt, reader, Some(limit)) else {
         return conclude(None, &mut errors);
     };
-    match operate(rt, &stream, &errand, patience) {
-        Ok(talked) => end(rt, &errand, words, &talked),
+    let mut shown = Output::new(rt.stdout());
+    match access_reader(rt, &stream, asked.errand(words), patience, &mut shown) {
+        Ok(ending) => say_ending(ending, &mut errors),
         Err(error) => answer(Err(error), &mut errors),
     }
 }

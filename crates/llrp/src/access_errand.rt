@@ -3,8 +3,8 @@
 use llrp_commands::AccessWords;
 use llrp_listing::{ToolErr, bytes_of_hex, read_all};
 use llrp_operations::{
-    LONGEST_EPC, Operation, Request, SpecErr, WordErr, access_spec, epc_write, lock_of, read_of,
-    with_checks, write_of,
+    Errand, LONGEST_EPC, Operation, Request, SpecErr, WordErr, access_spec, epc_write, lock_of,
+    read_of, with_checks, write_of,
 };
 use llrp_stream::Input;
 use std::alloc::{AllocError, AllocFailed, Global};
@@ -12,7 +12,7 @@ use std::fs::File;
 use tag_uri::word_of_text;
 
 /// The id of the AccessSpec and of the ROSpec: LLRP's port, since most clients begin with 1.
-pub const OWN_ID: u32 = 5084;
+const OWN_ID: u32 = 5084;
 
 /// What is written if nothing is to be done.
 const NOTHING: &[u8] = b"error: one of '--read', '--write', '--epc' and '--lock' is required\n";
@@ -37,7 +37,7 @@ pub struct OperationTexts<'a> {
 
 /// What is asked of a tag.
 #[derive(Drop)]
-pub struct Errand {
+pub struct OwnErrand {
     /// The tag's EPC; of no octets for any tag.
     epc: Vec<u8>,
     antenna: u16,
@@ -73,9 +73,9 @@ impl<T: Drop> From<AllocFailed<T>> for NoErrand {
     }
 }
 
-impl Errand {
+impl OwnErrand {
     /// The request of the AccessSpec.
-    pub fn request(&self) -> Request<'_> {
+    fn request(&self) -> Request<'_> {
         Request {
             id: OWN_ID,
             antenna: self.antenna,
@@ -86,15 +86,15 @@ impl Errand {
         }
     }
 
-    /// The operations that were asked for.
-    pub fn asked(&self) -> &[Operation] {
+    /// The errand of these words.
+    pub fn errand(&self, words: AccessWords<'_>) -> Errand<'_> {
         let all = self.sent.as_slice();
-        all.split_at(self.asked.min(all.len())).0
-    }
-
-    /// The operations that are sent.
-    pub fn sent(&self) -> &[Operation] {
-        self.sent.as_slice()
+        Errand {
+            request: self.request(),
+            asked: all.split_at(self.asked.min(all.len())).0,
+            verifies: words.verify,
+            json: words.json,
+        }
     }
 }
 
@@ -191,7 +191,7 @@ fn password_in(rt: &HostRuntime, path: Option<&str>) -> Result<u32, NoErrand> {
 }
 
 /// Whether the AccessSpec can be made.
-fn check(alloc: Global, errand: Errand) -> Result<Errand, NoErrand> {
+fn check(alloc: Global, errand: OwnErrand) -> Result<OwnErrand, NoErrand> {
     match access_spec(alloc, errand.request()) {
         Ok(_) => Ok(errand),
         Err(SpecErr::Memory) => Err(NoErrand::Memory),
@@ -204,7 +204,7 @@ pub fn errand_of(
     rt: &HostRuntime,
     words: AccessWords<'_>,
     texts: &OperationTexts<'_>,
-) -> Result<Errand, NoErrand> {
+) -> Result<OwnErrand, NoErrand> {
     let alloc = rt.alloc();
     let epc = epc_of_tag(alloc, words.tag)?;
     let operations = operations_of(alloc, epc.as_slice(), words.epc, texts)?;
@@ -217,7 +217,7 @@ pub fn errand_of(
     } else {
         operations
     };
-    let errand = Errand {
+    let errand = OwnErrand {
         epc,
         antenna: words.antenna.unwrap_or(0),
         password: password_in(rt, words.password_file)?,

@@ -24,8 +24,8 @@ const PATIENCE: u16 = 10;
 /// The exit status where a frame that came is not a message.
 const FAULTY: u8 = 1;
 
-/// Reads the steps of a file to the end of the source, with lines of octets or without. The errors are `Listing` with the first line
-/// that is refused, `Read`, `Bound` and `Memory`.
+/// Reads the steps of a file to the end of the source, with lines of octets or without. The errors are
+/// `Listing` with the first line that is refused, `Read`, `Bound` and `Memory`.
 pub fn read_steps<R: Source>(alloc: Global, r: &mut R, raw: bool) -> Result<Vec<Step>, ToolErr>
     requires { IsFreshSource (R.log r.old) }
     ensures steps { IfOk result (λ steps. ReadsSteps raw (R.log r.old) (R.log r.new) steps.items) }

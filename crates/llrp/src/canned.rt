@@ -18,7 +18,7 @@ const REFUSED: u8 = 1;
 
 /// Why there are no answers.
 pub enum NoAnswers {
-    /// The file cannot be opened, or not read.
+    /// The file cannot be opened or read.
     Unread,
     /// Its text is refused, or memory ran out.
     Text(TextErr),

@@ -65,8 +65,8 @@ pub fn most_clients(clients: Option<u16>) -> u64
 }
 
 /// Serves clients of a listener one after another, each as a new reader by the script from its
-/// beginning. Writes how each ended that did not end well as a line to `e`, and returns the greatest
-/// of their exit statuses.
+/// beginning. For each one that did not end well it writes how that ended as a line to `e`. Returns the
+/// greatest of their exit statuses.
 pub fn serve_clients<E: Sink>(
     alloc: Global,
     listener: &TcpListener,

@@ -6,7 +6,7 @@ ghost use Rattle.llrp_stream.specs.Calls.Device.{new_source};
 use llrp_stream::Source;
 use std::cell::Cell;
 use std::io;
-use std::io::{ErrorKind, Read};
+use std::io::Read;
 use std::net::TcpStream;
 use std::time::{Duration, Instant};
 
@@ -53,31 +53,15 @@ pub fn no_longer(rt: &HostRuntime, pause: Duration, until: Option<Instant>) -> D
 pub struct Deadline {
     until: Option<Instant>,
     was_told: Cell<bool>,
-    /// With which status the reader refused what was sent beside the plan.
-    refused: Cell<Option<u16>>,
 }
 
 impl Deadline {
-    /// One that its client does not know yet.
+    /// A deadline of which its client does not know yet.
     pub fn new(until: Option<Instant>) -> Deadline {
         Deadline {
             until,
             was_told: Cell::new(false),
-            refused: Cell::new(None),
         }
-    }
-
-    /// Ends the connection at its next read: the reader refused with this status what was sent beside the
-    /// plan.
-    pub fn refuse(&self, status: u16) {
-        if self.refused.get().is_none() {
-            self.refused.set(Some(status));
-        }
-    }
-
-    /// The first such status.
-    pub fn refused(&self) -> Option<u16> {
-        self.refused.get()
     }
 
     /// Whether the time is up, for the client that asks.
@@ -94,7 +78,7 @@ impl Deadline {
         is_past(rt, self.until) && !self.was_told.get()
     }
 
-    /// How long a read may wait whose reader may be silent for that long, in a run that ends.
+    /// How long a read may wait in a run that ends, where the reader may be silent for this long.
     fn patience(&self, rt: &HostRuntime, silence: Option<Duration>) -> Option<Duration> {
         if self.was_told.get() {
             return Some(silence.unwrap_or(Duration::from_secs(PATIENCE)));
@@ -138,13 +122,10 @@ impl<'a> Until<'a> {
         }
     }
 
-    /// Reads what comes in time; nothing once the reader has refused what was sent beside the plan.
+    /// Reads what comes in time.
     fn read_in_time(&self, buf: &mut [u8]) -> io::Result<usize>
         ensures { IfOk result (λ n. n ≤ length buf.new) }
     {
-        if self.deadline.refused().is_some() {
-            return Err(io::Error::from(ErrorKind::ConnectionAborted));
-        }
         if let Some(patience) = self.deadline.patience(self.rt, self.silence) {
             self.stream.set_read_timeout(Some(patience))?;
         }

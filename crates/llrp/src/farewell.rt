@@ -68,8 +68,8 @@ pub fn say_farewell<W: Sink>(
     encode_listing(alloc, KindSet::Profile, text.as_slice(), w, LIMIT)
 }
 
-/// Reads until the reader has closed the connection, says nothing for the time of `PATIENCE`, or
-/// after the greatest number of reads. What is read is not looked at. Returns whether it was closed.
+/// Reads until the reader has closed the connection or has sent nothing for the time of `PATIENCE`, or until
+/// the greatest number of reads. What is read is not looked at. Returns whether the connection was closed.
 fn await_end(stream: &TcpStream) -> bool {
     let mut reader = stream;
     let mut piece = [0; 4_096];

@@ -1,16 +1,17 @@
 //! What is said of the frames of a connection that are no messages.
 
-ghost use Rattle.std.specs.Prelude.{◌≡◌, ◌≤◌, IfOk};
+ghost use Rattle.std.specs.Prelude.{◌≡◌, ◌≤◌, [], IfOk, None, is_none, true};
+ghost use Rattle.llrp_schema.specs.declared.kinds.KindSet.TheVariants.{Standard};
+ghost use Rattle.llrp_stream.specs.Calls.Decoding.{StandsIn};
 ghost use Rattle.llrp_commands.specs.Calls.Arguments.{IsLongest};
 ghost use Rattle.llrp_listing.specs.StreamListing.{fault_text};
 
 use crate::access::refused_status;
-use crate::deadline::Deadline;
 use crate::notes::{Notes, Urgency};
 use llrp_listing::{Text, reason_name};
 use llrp_schema::KindSet;
 use llrp_stream::{Decoder, Fed, Item};
-use llrp_tree::{Fault, Message};
+use llrp_tree::Fault;
 use std::alloc::{AllocError, Global};
 
 /// The line of a faulty frame, as `show` has it.
@@ -36,70 +37,100 @@ fn say_fault(alloc: Global, notes: &Notes, id: u32, fault: Fault) {
     }
 }
 
-/// Finds the frames that are no messages in octets that come in pieces, and says them, if notes are asked
-/// for. It may also find the messages by which a reader refuses what was sent beside a plan.
+/// Finds the frames that are no messages in octets that come in pieces, and writes notes on them, if notes
+/// are asked for. It may also find the first message by which a reader refuses what was sent beside a plan.
 #[derive(Drop)]
 pub struct FaultFinder<'a> {
     alloc: Global,
     decoder: Decoder,
     notes: &'a Notes,
-    /// What a refusal ends.
-    ending: Option<&'a Deadline>,
+    /// Whether messages on AccessSpecs are sent beside the plan.
+    heeds_access: bool,
+    /// With which status the reader refused the first of them.
+    refused: Option<u16>,
 }
 
 impl<'a> FaultFinder<'a> {
-    /// One to which no octet came. A frame of more than `limit` octets is faulty.
+    ghost use Rattle.llrp.specs.Calls.Refusals.{HasHeard, Hears, refused_by};
+
+    /// A finder to which no octet came. A frame of more than `limit` octets is faulty.
     pub fn new(alloc: Global, limit: u32, notes: &'a Notes) -> FaultFinder<'a>
         requires limit { IsLongest limit }
+        ensures stands { StandsIn Standard result.decoder [] }
+        ensures limit { result.decoder.limit ≡ limit }
+        ensures refused { result.refused ≡ None }
     {
         FaultFinder {
             alloc,
             decoder: Decoder::new_in(alloc, KindSet::Standard, limit),
             notes,
-            ending: None,
+            heeds_access: false,
+            refused: None,
         }
     }
 
-    /// The same one, but a connection with messages on AccessSpecs ends by a refusal of one of them.
-    pub fn ending(self, deadline: &'a Deadline) -> FaultFinder<'a> {
+    /// A finder to which no octet came, for a connection with messages on AccessSpecs.
+    pub fn heeding(alloc: Global, limit: u32, notes: &'a Notes) -> FaultFinder<'a>
+        requires limit { IsLongest limit }
+        ensures { HasHeard limit [] result }
+    {
         FaultFinder {
-            ending: Some(deadline),
-            ..self
+            heeds_access: true,
+            ..FaultFinder::new(alloc, limit, notes)
         }
     }
 
-    /// Whether there are messages on AccessSpecs.
-    pub fn heeds_access(&self) -> bool {
-        self.ending.is_some()
+    /// Whether messages on AccessSpecs are sent beside the plan.
+    pub fn heeds_access(&self) -> bool
+        ensures { result ≡ self.now.heeds_access }
+    {
+        self.heeds_access
     }
 
-    /// Ends the connection if a message refuses one of those.
-    fn heed(&self, message: &Message) {
-        if let Some(deadline) = self.ending {
-            if let Some(status) = refused_status(message) {
-                deadline.refuse(status);
-            }
+    /// With which status the reader refused the first of them, once it did.
+    pub fn refused(&self) -> Option<u16>
+        ensures { result ≡ self.now.refused }
+    {
+        self.refused
+    }
+
+    /// Whether it takes octets: it does until a refusal came.
+    fn listens(&self) -> bool
+        ensures refused { self.now.heeds_access ≡ true → result ≡ is_none self.now.refused }
+    {
+        self.refused.is_none() && (self.heeds_access || self.notes.are_asked())
+    }
+
+    /// Writes notes on a frame that is no message, and keeps the status of a message that refuses one on
+    /// AccessSpecs.
+    fn hear(&mut self, item: Item)
+        ensures decoder { self.new.decoder ≡ self.old.decoder }
+        ensures heeds { self.new.heeds_access ≡ self.old.heeds_access }
+        ensures refused { self.old.heeds_access ≡ true → self.old.refused ≡ None
+            → self.new.refused ≡ refused_by item }
+    {
+        match item {
+            Item::Msg(message) if self.heeds_access => self.refused = refused_status(&message),
+            Item::Msg(_) => {}
+            Item::Bad { id, fault } => say_fault(self.alloc, self.notes, id, fault),
         }
     }
 
-    /// Takes the next piece, and says each frame that ends in it and is no message.
-    pub fn take(&mut self, piece: &[u8]) {
-        if !self.notes.are_asked() && !self.heeds_access() {
-            return;
-        }
+    /// Takes the next piece, and writes notes on each frame that ends in it and is no message, up to the
+    /// first message by which the reader refuses one on AccessSpecs, if it heeds these.
+    pub fn take(&mut self, piece: &[u8])
+        ensures { Hears piece.now self.old self.new }
+    {
         let mut rest = piece;
-        for _ in 0..u64::MAX {
-            if rest.is_empty() {
-                return;
-            }
-            let Ok(Fed { used, item }) = self.decoder.feed(rest) else {
+        while !rest.is_empty() && self.listens() {
+            let Fed { used, item } = match self.decoder.feed(rest) {
+                Ok(fed) => fed,
+                Err(_) => return,
+            };
+            let Some(item) = item else {
                 return;
             };
-            match item {
-                None => return,
-                Some(Item::Msg(message)) => self.heed(&message),
-                Some(Item::Bad { id, fault }) => say_fault(self.alloc, self.notes, id, fault),
-            }
+            self.hear(item);
             rest = rest.split_at(used).1;
         }
     }

@@ -1,4 +1,5 @@
-//! The files that `show`, `encode` or `explain` reads one after another, each as a stream by itself. The word `-` is standard input.
+//! The files that `show`, `encode` or `explain` reads one after another, each as a stream by itself. The word
+//! `-` is standard input.
 
 ghost use Rattle.std.specs.Prelude.{IfOk, map};
 ghost use Rattle.llrp_stream.specs.Calls.Device.{CanWrite};
@@ -19,8 +20,8 @@ use std::io::ErrorKind;
 /// The line of an error that is not the file's: no file after it can be written either.
 const NOT_WRITTEN: &[u8] = b"llrp: write\n";
 
-/// Writes the error line of a file, with the file's name after the program's. The error is `Write` if this failed, or if the line
-/// says that a write failed.
+/// Writes the error line of a file, with the file's name after the program's. The error is `Write` if this
+/// failed, or if the line says that a write failed.
 fn tell<E: Sink>(file: &str, line: &[u8], e: &mut E) -> Result<(), ToolErr>
     requires { CanWrite (E.log e.old) }
 {
@@ -100,8 +101,8 @@ fn run_file(rt: &HostRuntime, words: &[String], file: &str) -> Result<u8, ToolEr
     }
 }
 
-/// Runs the command that the words ask for over each file in order, and returns the greatest exit status. Words with a mistake end
-/// it at once.
+/// Runs the command that the words ask for over each file in order, and returns the greatest exit status.
+/// Words with a mistake end it at once.
 pub fn run_files(rt: &HostRuntime, words: &[String], files: &[&str]) -> Result<u8, ToolErr> {
     let mut worst = 0u8;
     for file in files {

@@ -2,18 +2,17 @@
 
 ghost use Rattle.std.specs.Prelude.{◌≡◌, ◌<◌, IfSome, length};
 
-use crate::faults::FaultFinder;
 use crate::notes::{Notes, Urgency};
 use crate::whole_frames::FrameCutter;
 use llrp_listing::{Text, run_show_in};
 use llrp_schema::{Kind, KindSet, msg_of_in, name};
-use llrp_stream::{Front, Input, Output, Sink, Source, front_of};
+use llrp_stream::{Front, Input, Output, Sink, front_of};
 use std::alloc::{AllocError, Global};
 use std::cell::Cell;
 use std::io;
 
 /// The most octets of a frame that is looked at.
-const MOST_OCTETS: u32 = 1_048_576;
+pub const MOST_OCTETS: u32 = 1_048_576;
 
 /// The most octets of a reader's text that are said.
 const MOST_TEXT: usize = 200;
@@ -313,7 +312,7 @@ fn listing_of(alloc: Global, frame: &[u8]) -> Option<String> {
 
 /// Says of a frame what there is to say. An answer ends the waiting for it, but not one to a message on
 /// AccessSpecs that was sent beside the plan.
-fn say_frame(
+pub fn say_frame(
     alloc: Global,
     notes: &Notes,
     pending: &Cell<Option<Request>>,
@@ -325,7 +324,7 @@ fn say_frame(
     };
     let listing = text.as_str();
     match heading_of(listing) {
-        // `FaultFinder` says a frame that is no message.
+        // `FaultFinder` writes notes on a frame that is no message.
         None => {}
         Some(heading) if heeds_access && heading.name.ends_with("_ACCESSSPEC_RESPONSE") => {
             say_status(alloc, notes, heading, listing);
@@ -339,7 +338,7 @@ fn say_frame(
 }
 
 /// The frame at the front of whole frames, and what follows it.
-fn split_frame(frames: &[u8]) -> Option<(&[u8], &[u8])>
+pub fn split_frame(frames: &[u8]) -> Option<(&[u8], &[u8])>
     ensures { IfSome result (λ parts. length parts.1.now < length frames.now) }
 {
     match front_of(frames) {
@@ -347,74 +346,6 @@ fn split_frame(frames: &[u8]) -> Option<(&[u8], &[u8])>
             Some(frames.split_at(count as usize))
         }
         _ => None,
-    }
-}
-
-/// Passes each read on to a source, and says what there is to say of the frames that came: which of them
-/// are no messages, and all else if notes are asked for.
-#[derive(Drop)]
-pub struct Listening<'a, R: Source + Drop> {
-    alloc: Global,
-    source: R,
-    faults: FaultFinder<'a>,
-    cutter: FrameCutter,
-    notes: &'a Notes,
-    pending: &'a Cell<Option<Request>>,
-}
-
-impl<'a, R: Source + Drop> Listening<'a, R> {
-    /// A source of which nothing was read yet.
-    pub fn new(
-        alloc: Global,
-        source: R,
-        faults: FaultFinder<'a>,
-        notes: &'a Notes,
-        pending: &'a Cell<Option<Request>>,
-    ) -> Listening<'a, R>
-        ensures { ⟦<Listening<'a, R> as Source>⟧.log result ≡ R.log source }
-    {
-        Listening {
-            alloc,
-            source,
-            faults,
-            cutter: FrameCutter::new(alloc, MOST_OCTETS),
-            notes,
-            pending,
-        }
-    }
-
-    /// The source.
-    pub fn into_source(self) -> R {
-        self.source
-    }
-
-    /// Says what there is to say of these octets.
-    fn hear(&mut self, octets: &[u8])
-        ensures { self.new.source ≡ self.old.source }
-    {
-        self.faults.take(octets);
-        if !self.notes.are_asked() {
-            return;
-        }
-        let Ok(frames) = self.cutter.take(octets) else {
-            return;
-        };
-        let mut rest = frames.as_slice();
-        while let Some((frame, others)) = split_frame(rest) {
-            let heeds_access = self.faults.heeds_access();
-            say_frame(self.alloc, self.notes, self.pending, heeds_access, frame);
-            rest = others;
-        }
-    }
-}
-
-impl<'a, R: Source + Drop> Source for Listening<'a, R> {
-    ghost log = { λ s. R.log s.source };
-
-    fn read(&mut self, buf: &mut [u8]) -> io::Result<usize> {
-        let n = self.source.read(buf)?;
-        self.hear(buf.split_at(n).0);
-        Ok(n)
     }
 }
 

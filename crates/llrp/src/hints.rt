@@ -1,4 +1,5 @@
-//! Hints for a person at a terminal: a second line where the input of a command was not what the command takes.
+//! Hints for a person at a terminal: a second line where the input of a command was not what the command
+//! takes.
 
 ghost use Rattle.std.specs.Prelude.{◌≡◌};
 
@@ -59,7 +60,7 @@ impl<R: Source + Drop> Source for Noticing<R> {
     }
 }
 
-/// The commands whose input is noticed.
+/// What a command reads, where there are hints for it.
 #[derive(Clone, Copy, Debug, PartialEq, Eq)]
 pub enum Reading {
     /// `show` of octets.
@@ -99,7 +100,7 @@ fn are_digits(octets: &[u8]) -> bool {
     digits > 0
 }
 
-/// Whether one of the octets is none of a text.
+/// Whether one of the octets is neither a visible character of ASCII nor white space.
 fn are_binary(octets: &[u8]) -> bool {
     for octet in octets {
         if !octet.is_ascii_graphic() && !octet.is_ascii_whitespace() {
@@ -119,7 +120,7 @@ fn has_return(octets: &[u8]) -> bool {
     false
 }
 
-/// A hint to what `show` was given in place of the octets of messages.
+/// A hint at what `show` was given in place of the octets of messages.
 fn octets_hint(first: &[u8]) -> Option<&'static str> {
     match first {
         [0xD4, 0xC3, 0xB2, 0xA1, ..]
@@ -137,7 +138,7 @@ fn octets_hint(first: &[u8]) -> Option<&'static str> {
     }
 }
 
-/// A hint to what `show --hex` was given in place of digits.
+/// A hint at what `show --hex` was given in place of digits.
 fn digits_hint(first: &[u8]) -> Option<&'static str> {
     match first {
         [b'0', b'x' | b'X', ..] => Some("leave out 0x: only digits and white space are read"),
@@ -152,7 +153,7 @@ fn digits_hint(first: &[u8]) -> Option<&'static str> {
     }
 }
 
-/// A hint to what `encode` was given in place of a listing.
+/// A hint at what `encode` was given in place of a listing.
 fn listing_hint(first: &[u8]) -> Option<&'static str> {
     match first {
         [b'1'..=b'9', b' ', ..] => Some("a message comes first: a line that begins with 0"),
@@ -165,7 +166,7 @@ fn listing_hint(first: &[u8]) -> Option<&'static str> {
     }
 }
 
-/// A hint to what `encode --json` was given in place of lines of JSON.
+/// A hint at what `encode --json` was given in place of lines of JSON.
 fn lines_hint(first: &[u8]) -> Option<&'static str> {
     match first {
         [b'0', b' ', b'A'..=b'Z', ..] => Some("this is a listing; leave out --json"),

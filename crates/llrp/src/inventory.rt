@@ -1,16 +1,19 @@
 //! The command `inventory`: follows a plan with a reader over TCP.
 
 ghost use Rattle.llrp_commands.specs.Calls.Arguments.{IsLongest};
+ghost use Rattle.llrp.specs.Calls.Labels.{FollowsTold, ReportsTo, RunsLabelled};
 ghost use Rattle.llrp.specs.Calls.Network.{FollowsPlan, RunsPlan};
 ghost use Rattle.llrp_stream.specs.Device.{IsFreshSink};
 
 use crate::connecting::say_connected;
 use crate::faults::FaultFinder;
-use crate::heard_frames::{Asking, Listening};
+use crate::heard_frames::Asking;
+use crate::labelled_report::LabelledReport;
+use crate::listening::Listening;
 use crate::network::conclude;
 use crate::notes::Notes;
 use crate::progress::Progress;
-use llrp_endpoints::{Plan, run_inventory};
+use llrp_endpoints::{Plan, run_inventory, run_watching};
 use llrp_listing::ToolErr;
 use llrp_stream::{Input, Output, Sink};
 use std::alloc::Global;
@@ -51,6 +54,29 @@ pub fn take_inventory<W: Sink>(
     let mut source = Listening::new(alloc, Input::new(stream), faults, notes, &pending);
     let mut sink = Asking::new(alloc, Output::new(stream), &pending);
     run_inventory(alloc, plan, limit, &mut source, &mut sink, report)?;
+    Ok(())
+}
+
+/// The same, and writes the lines of tags to `report` with their labels. However many reads there are, it
+/// ends as the plan does.
+pub fn take_labelled<W: Write + Drop, T: Write + Drop>(
+    alloc: Global,
+    stream: &TcpStream,
+    plan: Plan,
+    limit: u32,
+    notes: &Notes,
+    report: &mut LabelledReport<W, T>,
+) -> Result<(), ToolErr>
+    requires { IsLongest limit }
+    ensures { FollowsTold limit plan
+        (ReportsTo report.old.labels report.old.form (W.contents report.old.output))
+        (ReportsTo report.new.labels report.new.form (W.contents report.new.output)) result }
+{
+    let pending = Cell::new(None);
+    let faults = FaultFinder::new(alloc, limit, notes);
+    let mut source = Listening::new(alloc, Input::new(stream), faults, notes, &pending);
+    let mut sink = Asking::new(alloc, Output::new(stream), &pending);
+    run_watching(alloc, plan, limit, &mut source, &mut sink, report)?;
     Ok(())
 }
 
@@ -102,6 +128,40 @@ pub fn inventory<
             say_connected(alloc, target.notes, &stream);
             let (limit, notes) = (target.limit, target.notes);
             Some(take_inventory(alloc, &stream, plan, limit, notes, report))
+        }
+        None => None,
+    };
+    report.wipe();
+    conclude(outcome, e)
+}
+
+/// The same with labels.
+pub fn labelled_inventory<
+    N: Net<Listener = TcpListener, Stream = TcpStream>,
+    W: Write + Drop,
+    T: Write + Drop,
+    E: Sink,
+>(
+    net: &N,
+    alloc: Global,
+    target: Target<'_>,
+    plan: Plan,
+    report: &mut LabelledReport<W, T>,
+    e: &mut E,
+) -> Result<u8, ToolErr>
+    requires limit { IsLongest target.limit }
+    requires errors { IsFreshSink (E.log e.old) }
+    ensures { RunsLabelled target.entry.limit plan
+        (ReportsTo report.old.labels report.old.form (W.contents report.old.output))
+        (ReportsTo report.new.labels report.new.form (W.contents report.new.output))
+        (W.contents report.old.output) (W.contents report.new.output) (E.log e.old) (E.log e.new) result }
+{
+    let outcome = match connect(net, target) {
+        Some(stream) => {
+            report.show();
+            say_connected(alloc, target.notes, &stream);
+            let (limit, notes) = (target.limit, target.notes);
+            Some(take_labelled(alloc, &stream, plan, limit, notes, report))
         }
         None => None,
     };

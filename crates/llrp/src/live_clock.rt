@@ -6,11 +6,14 @@ use std::time::{Duration, Instant, SystemTime};
 /// The greatest rate of a clock.
 const MOST_RATE: u16 = 1_000;
 
-/// For how many microseconds a read waits at most, since the reader does not say when it next has something to say.
-const LONGEST_WAIT: u64 = 10_000;
+/// For how many microseconds a read waits at most, since others may come that are refused meanwhile.
+const LONGEST_WAIT: u64 = 100_000;
 
 /// The least time for which a read waits.
 const LEAST_WAIT: u64 = 1_000;
+
+/// How many microseconds a second has.
+const SECOND: u64 = 1_000_000;
 
 /// The rate of a clock that the words name: `real`, or `real*N` for N times as fast as time passes.
 pub fn rate_of(text: &str) -> Option<u16> {
@@ -60,10 +63,17 @@ impl<'a> LiveClock<'a> {
         moment_in(self.began, microseconds(elapsed), self.rate)
     }
 
-    /// For how long to wait at a moment for what happens next: until it is due, and not for long.
+    /// How many microseconds pass on this clock in this number of seconds of the time of day, at most the
+    /// greatest `u64`.
+    pub fn in_moments(&self, seconds: u64) -> u64 {
+        moment_in(0, seconds.saturating_mul(SECOND), self.rate)
+    }
+
+    /// How long to wait at a moment for what happens next: until it is due, but at least `LEAST_WAIT` and at
+    /// most `LONGEST_WAIT`.
     pub fn wait_until(&self, now: u64, next: Option<u64>) -> Duration {
         let wait = match next {
-            Some(next) => next.saturating_sub(now) / self.rate.max(1) as u64,
+            Some(next) => (next.saturating_sub(now) / self.rate.max(1) as u64).saturating_add(1),
             None => LONGEST_WAIT,
         };
         Duration::from_micros(wait.min(LONGEST_WAIT).max(LEAST_WAIT))

@@ -1,71 +1,102 @@
 //! The command `sim` with `--clock`: serves clients in real time.
 
+ghost use Rattle.std.specs.Prelude.{◌≡◌, if◌then◌else◌};
+ghost use Rattle.llrp_commands.specs.declared.command.TheConstants.{LIMIT};
+ghost use Rattle.llrp_session.specs.ReaderMachine as machine;
+ghost use Rattle.llrp.specs.declared.network.TheConstants.{FIRST_ID};
+
 use crate::canned::{AnswerText, refuse_answers};
 use crate::clients::{most_clients, say_ready};
-use crate::live_client::serve_live;
+use crate::live_client::{Served, serve_live};
 use crate::live_clock::LiveClock;
-use crate::network::conclude;
+use crate::live_script::{LiveScript, refuse_script};
+use crate::network::{FIRST_ID, conclude};
 use crate::one_at_a_time::Clients;
-use crate::sim::listens_on;
-use llrp_commands::SimWords;
-use llrp_listing::ToolErr;
-use llrp_live::{Line, ScriptReader};
+use crate::sim::{listens_on, port_of};
+use llrp_commands::{LIMIT, SimWords};
+use llrp_listing::{Text, ToolErr, write_all};
+use llrp_session::Reader;
 use llrp_stream::Output;
 use std::alloc::Global;
-use std::io::{Read, Stdin};
 use std::net::TcpListener;
 
-/// How many octets of a script are read at once.
-const READ_SIZE: usize = 4_096;
+/// The exit status where a client did not send what the script expects.
+const UNMET: u8 = 1;
 
-/// Reads a script to its end, or until a line is refused.
-fn read_script(alloc: Global, input: Stdin) -> Result<Vec<Line>, ToolErr> {
-    let mut input = input;
-    let mut reader = ScriptReader::new(alloc);
-    let mut buffer = [0u8; READ_SIZE];
-    for _ in 0..u64::MAX {
-        match input.read(&mut buffer) {
-            Ok(0) => break,
-            Ok(n) => reader.take(&buffer[..n])?,
-            Err(_) => return Err(ToolErr::Read),
-        }
-    }
-    reader.finish()
-}
-
-/// Serves the next client. `None` means that the network failed.
+/// Serves the next client by a reader. `None` means that the network failed.
 fn serve_next(
     alloc: Global,
     clock: LiveClock<'_>,
     clients: &mut Clients<'_>,
-    lines: &[Line],
+    script: &LiveScript,
     answers: &AnswerText,
-) -> Option<Result<(), ToolErr>> {
+    core: Reader,
+) -> Option<(Result<Served, ToolErr>, Reader)> {
     let stream = clients.next()?;
-    match answers.answers(alloc) {
-        Ok(answers) => Some(serve_live(alloc, clock, clients, &stream, lines, answers)),
-        Err(error) => Some(Err(error)),
+    Some(match answers.answers(alloc) {
+        Ok(answers) => serve_live(alloc, clock, clients, &stream, script, answers, core),
+        Err(error) => (Err(error), core),
+    })
+}
+
+/// The line of an expectation that was not met.
+fn unmet_line(alloc: Global, line: u64) -> Result<Text, ToolErr> {
+    let mut text = Text::new(alloc);
+    text.push_text(b"llrp: expect: line ")?;
+    text.push_number(line as u128)?;
+    text.push_text(b"\n")?;
+    Ok(text)
+}
+
+/// The exit status of a client that was served so, after it was said if it is not 0.
+fn conclude_served(rt: &HostRuntime, served: Result<Served, ToolErr>) -> Result<u8, ToolErr> {
+    let mut errors = Output::new(rt.stderr());
+    match served {
+        Ok(Served::Well) => Ok(0),
+        Ok(Served::Unmet { line }) => {
+            let text = unmet_line(rt.alloc(), line)?;
+            write_all(&mut errors, text.as_slice())?;
+            Ok(UNMET)
+        }
+        Err(error) => conclude(Some(Err(error)), &mut errors),
     }
 }
 
-/// Serves clients of a listener one after another. Returns the greatest of their exit statuses.
+/// A reader as new.
+fn new_reader(alloc: Global) -> Reader
+    ensures { result ≡ machine.new_reader LIMIT FIRST_ID }
+{
+    Reader::new(alloc, LIMIT, FIRST_ID)
+}
+
+/// The reader for the next client: the one that the last client left, if it is kept, and else one as
+/// new.
+fn next_core(alloc: Global, keep: bool, left: Reader) -> Reader
+    ensures { result ≡ (if keep then left else machine.new_reader LIMIT FIRST_ID) }
+{
+    if keep { left } else { new_reader(alloc) }
+}
+
+/// Serves clients of a listener one after another, each by a reader as new, or by one that keeps its
+/// ROSpecs. Returns the greatest of their exit statuses.
 fn serve_clients(
     rt: &HostRuntime,
     clock: LiveClock<'_>,
     listener: &TcpListener,
-    lines: &[Line],
+    script: &LiveScript,
     answers: &AnswerText,
-    most: u64,
+    words: SimWords<'_>,
 ) -> Result<u8, ToolErr> {
     let mut clients = Clients::new(listener);
+    let mut core = new_reader(rt.alloc());
     let mut status = 0;
-    for _ in 0..most {
-        let outcome = serve_next(rt.alloc(), clock, &mut clients, lines, answers);
-        let failed = outcome.is_none();
-        let ended = conclude(outcome, &mut Output::new(rt.stderr()))?;
-        if failed {
-            return Ok(ended);
-        }
+    for _ in 0..most_clients(words.clients) {
+        let next = serve_next(rt.alloc(), clock, &mut clients, script, answers, core);
+        let Some((served, left)) = next else {
+            return conclude(None, &mut Output::new(rt.stderr()));
+        };
+        core = next_core(rt.alloc(), words.keep, left);
+        let ended = conclude_served(rt, served)?;
         if ended > status {
             status = ended;
         }
@@ -73,12 +104,12 @@ fn serve_clients(
     Ok(status)
 }
 
-/// Listens where the words say, says so if it is to, and serves clients by the lines of a script.
+/// Listens where the words say, says so if it is to, and serves clients by a script.
 fn serve_at(
     rt: &HostRuntime,
     words: SimWords<'_>,
     rate: u16,
-    lines: &[Line],
+    script: &LiveScript,
     answers: &AnswerText,
 ) -> Result<u8, ToolErr> {
     let mut errors = Output::new(rt.stderr());
@@ -90,10 +121,14 @@ fn serve_at(
         return conclude(None, &mut errors);
     };
     if words.ready {
-        say_ready(rt.alloc(), address, words.port, &mut errors)?;
+        say_ready(
+            rt.alloc(),
+            address,
+            port_of(&listener, words.port),
+            &mut errors,
+        )?;
     }
-    let most = most_clients(words.clients);
-    serve_clients(rt, clock, &listener, lines, answers, most)
+    serve_clients(rt, clock, &listener, script, answers, words)
 }
 
 /// Reads the script, serves clients in real time as the words say, and returns the exit status, as
@@ -103,8 +138,8 @@ pub fn live_sim(rt: &HostRuntime, words: SimWords<'_>, rate: u16) -> Result<u8, 
         Ok(answers) => answers,
         Err(no_answers) => return refuse_answers(no_answers, &mut Output::new(rt.stderr())),
     };
-    match read_script(rt.alloc(), rt.stdin()) {
-        Ok(lines) => serve_at(rt, words, rate, lines.as_slice(), &answers),
-        Err(error) => conclude(Some(Err(error)), &mut Output::new(rt.stderr())),
+    match LiveScript::read(rt) {
+        Ok(script) => serve_at(rt, words, rate, &script, &answers),
+        Err(no_script) => refuse_script(rt, no_script),
     }
 }

@@ -1,17 +1,17 @@
 //! The program `llrp`: passes its words and its standard streams to the library of the command
 //! line, and exits with the status that this returns. It runs the commands over sockets itself.
 //!
-//! Read it to see what no contract covers: arguments, terminals, sockets and the exit status. The commands are in `llrp_commands`,
-//! the two ends of a connection in `llrp_endpoints`.
+//! Read it to see what no contract covers: arguments, terminals, sockets and the exit status. The commands
+//! are in `llrp_commands`, the two ends of a connection in `llrp_endpoints`.
 #![tactic(auto)]
 
 ghost use Rattle.llrp_stream.specs.Calls.Device.{CanWrite};
-ghost use Rattle.llrp_commands.specs.Calls.Arguments.{IsBounded};
+ghost use Rattle.llrp_stream.specs.Device.{IsFreshSink};
+ghost use Rattle.llrp_commands.specs.Calls.Arguments.{IsBounded, IsLongest};
 
 mod access;
 mod access_command;
 mod access_errand;
-mod access_talk;
 mod address;
 mod ask;
 mod both_ends;
@@ -23,13 +23,17 @@ mod decibels;
 mod farewell;
 mod faults;
 mod files;
-mod frame_ends;
 mod heard_frames;
 mod hints;
 mod inventory;
+mod labelled_report;
+mod labels;
+mod listening;
 mod live_client;
 mod live_clock;
+mod live_script;
 mod live_sim;
+mod located;
 mod message_printer;
 mod network;
 mod noted;
@@ -46,6 +50,8 @@ mod refused_words;
 mod replayed;
 mod saving;
 mod sim;
+mod speech;
+mod tag_files;
 mod tag_printer;
 mod terminal;
 mod timed;
@@ -57,9 +63,12 @@ use address::address_of;
 use files::run_files;
 use hints::Noticing;
 use inventory::Target;
+use labelled_report::LabelledReport;
+use labels::asked_labels;
 use live_clock::rate_of;
 use llrp_commands::{
-    NetworkCommand, PlanWords, USAGE, files_asked, network_command, prefixes_file, run_command,
+    AccessWords, AskWords, LabelWords, NetworkCommand, PlanWords, SimWords, StopWords, USAGE,
+    WatchWords, files_asked, network_command, prefixes_file, run_command,
 };
 use llrp_listing::{ToolErr, write_all};
 use llrp_stream::{Input, Output, Sink};
@@ -69,7 +78,9 @@ use out_of_memory::end_without_memory;
 use plan::{open_plan, refuse};
 use prefixes::run_epc_by_file;
 use progress::Progress;
-use refused_words::{NO_ADDRESS, NO_CLOCK, plan_clash, sim_clash, stop_clash, watch_clash};
+use refused_words::{
+    NO_ADDRESS, NO_CLOCK, label_clash, plan_clash, sim_clash, stop_clash, watch_clash,
+};
 use std::env;
 use std::fs::File;
 use std::io::{ErrorKind, IsTerminal, Stderr};
@@ -78,16 +89,6 @@ use terminal::{say_hint, say_waiting};
 
 /// What is written if an argument is not UTF-8.
 const NOT_UTF8: &[u8] = b"error: invalid UTF-8 was detected in one or more arguments\n";
-
-/// What the words say of a plan, if the command has one.
-fn plan_in<'a>(command: &NetworkCommand<'a>) -> Option<PlanWords<'a>> {
-    match command {
-        NetworkCommand::Sim { .. } | NetworkCommand::Watch { .. } => None,
-        NetworkCommand::Stop { .. } | NetworkCommand::Ask { .. } => None,
-        NetworkCommand::Access { .. } => None,
-        NetworkCommand::Inventory { plan, .. } | NetworkCommand::Loop { plan } => Some(*plan),
-    }
-}
 
 /// Opens a directory once for each standard stream. If one of these is closed, a directory gets its
 /// descriptor, which the next socket would otherwise get: so reads and writes of that stream fail,
@@ -99,7 +100,7 @@ fn hold_descriptors(rt: &HostRuntime) -> Option<[File; 3]> {
     Some([first, second, third])
 }
 
-/// The terminal that standard error is, if it is one.
+/// Standard error, if it is a terminal.
 fn terminal_of(rt: &HostRuntime) -> Option<Stderr> {
     if rt.stderr().is_terminal() {
         Some(rt.stderr())
@@ -116,6 +117,139 @@ fn refuse_words<E: Sink>(said: &[u8], errors: &mut E) -> Result<u8, ToolErr>
     Ok(USAGE)
 }
 
+/// Serves clients as a simulated reader, as the words say, and returns the exit status.
+fn run_sim<E: Sink>(rt: &HostRuntime, words: SimWords<'_>, errors: &mut E) -> Result<u8, ToolErr>
+    requires { IsFreshSink (E.log errors.old) }
+{
+    if let Some(said) = sim_clash(words) {
+        return refuse_words(said, errors);
+    }
+    let Some(clock) = words.clock else {
+        return sim::sim(rt, rt.alloc(), words, &mut Input::new(rt.stdin()), errors);
+    };
+    match rate_of(clock) {
+        Some(rate) => live_sim::live_sim(rt, words, rate),
+        None => refuse_words(NO_CLOCK, errors),
+    }
+}
+
+/// Prints the tags of a reader by the plan that the words ask for, with these labels, and returns the exit
+/// status.
+fn run_inventory<E: Sink>(
+    rt: &HostRuntime,
+    target: Target<'_>,
+    words: PlanWords<'_>,
+    labels: LabelWords<'_>,
+    errors: &mut E,
+) -> Result<u8, ToolErr>
+    requires limit { IsLongest target.limit }
+    requires errors { IsFreshSink (E.log errors.old) }
+{
+    if let Some(said) = plan_clash(words).or(label_clash(labels, words.json, false)) {
+        return refuse_words(said, errors);
+    }
+    let alloc = rt.alloc();
+    let plan = match open_plan(rt, alloc, words) {
+        Ok(plan) => plan,
+        Err(no_plan) => return refuse(no_plan, errors),
+    };
+    let terminal = terminal_of(rt);
+    let Some(labels) = asked_labels(labels) else {
+        let mut report = Progress::new(Output::new(rt.stdout()), terminal);
+        return inventory::inventory(rt, alloc, target, plan, &mut report, errors);
+    };
+    let form = plan.form();
+    let mut report = LabelledReport::new(alloc, labels, form, rt.stdout(), terminal);
+    inventory::labelled_inventory(rt, alloc, target, plan, &mut report, errors)
+}
+
+/// Prints the tags of a simulated reader by the plan that the words ask for, and returns the exit status.
+fn run_loop<E: Sink>(rt: &HostRuntime, words: PlanWords<'_>, errors: &mut E) -> Result<u8, ToolErr>
+    requires { IsFreshSink (E.log errors.old) }
+{
+    if let Some(said) = plan_clash(words) {
+        return refuse_words(said, errors);
+    }
+    let alloc = rt.alloc();
+    let plan = match open_plan(rt, alloc, words) {
+        Ok(plan) => plan,
+        Err(no_plan) => return refuse(no_plan, errors),
+    };
+    let mut input = Input::new(rt.stdin());
+    let mut report = Progress::new(Output::new(rt.stdout()), terminal_of(rt));
+    both_ends::run_both_ends(rt, alloc, plan, &mut input, &mut report, errors)
+}
+
+/// Prints the tags of the reader at this host for as long as the words say, and returns the exit status.
+fn run_watch<E: Sink>(
+    rt: &HostRuntime,
+    host: &str,
+    words: WatchWords<'_>,
+    errors: &mut E,
+) -> Result<u8, ToolErr>
+    requires limit { IsLongest words.limit }
+    requires errors { CanWrite (E.log errors.old) }
+{
+    let Some(reader) = address_of(host) else {
+        return refuse_words(NO_ADDRESS, errors);
+    };
+    match watch_clash(words) {
+        Some(said) => refuse_words(said, errors),
+        None => watch::watch(rt, reader, words),
+    }
+}
+
+/// Deletes the ROSpec that the words name on the reader at this host, and returns the exit status.
+fn run_stop<E: Sink>(
+    rt: &HostRuntime,
+    host: &str,
+    words: StopWords<'_>,
+    errors: &mut E,
+) -> Result<u8, ToolErr>
+    requires { CanWrite (E.log errors.old) }
+{
+    let Some(reader) = address_of(host) else {
+        return refuse_words(NO_ADDRESS, errors);
+    };
+    match stop_clash(words) {
+        Some(said) => refuse_words(said, errors),
+        None => watch::stop(rt, reader, words),
+    }
+}
+
+/// Sends the messages of a file to the reader at this host, and returns the exit status.
+fn run_ask<E: Sink>(
+    rt: &HostRuntime,
+    host: &str,
+    words: AskWords<'_>,
+    errors: &mut E,
+) -> Result<u8, ToolErr>
+    requires { CanWrite (E.log errors.old) }
+{
+    match address_of(host) {
+        Some(reader) => ask::ask(rt, reader, words),
+        None => refuse_words(NO_ADDRESS, errors),
+    }
+}
+
+/// Reads, writes or locks one tag by the reader at this host, as the words of the command say, and returns
+/// the exit status.
+fn run_access<E: Sink>(
+    rt: &HostRuntime,
+    host: &str,
+    words: AccessWords<'_>,
+    said: &[String],
+    errors: &mut E,
+) -> Result<u8, ToolErr>
+    requires { CanWrite (E.log errors.old) }
+{
+    let Some(reader) = address_of(host) else {
+        return refuse_words(NO_ADDRESS, errors);
+    };
+    let texts = access_command::operation_texts(rt.alloc(), said)?;
+    access_command::access(rt, reader, words, &texts)
+}
+
 /// Runs a command over sockets, which these words ask for, and returns its exit status.
 fn run_network(
     rt: &HostRuntime,
@@ -124,26 +258,12 @@ fn run_network(
 ) -> Result<u8, ToolErr>
     requires { IsBounded command }
 {
-    let alloc = rt.alloc();
-    let mut input = Input::new(rt.stdin());
     let mut errors = Output::new(rt.stderr());
     let Some(_held) = hold_descriptors(rt) else {
         return conclude(None, &mut errors);
     };
-    let mut report = Progress::new(Output::new(rt.stdout()), terminal_of(rt));
-    if let Some(said) = plan_in(&command).and_then(plan_clash) {
-        write_all(&mut errors, said)?;
-        return Ok(USAGE);
-    }
     match command {
-        NetworkCommand::Sim { words } => match (sim_clash(words), words.clock) {
-            (Some(said), _) => refuse_words(said, &mut errors),
-            (None, None) => sim::sim(rt, alloc, words, &mut input, &mut errors),
-            (None, Some(clock)) => match rate_of(clock) {
-                Some(rate) => live_sim::live_sim(rt, words, rate),
-                None => refuse_words(NO_CLOCK, &mut errors),
-            },
-        },
+        NetworkCommand::Sim { words } => run_sim(rt, words, &mut errors),
         NetworkCommand::Inventory {
             host,
             port,
@@ -151,6 +271,7 @@ fn run_network(
             timeout,
             limit,
             verbose,
+            labels,
         } => {
             let notes = Notes::new(rt, verbose);
             let target = Target {
@@ -160,49 +281,13 @@ fn run_network(
                 limit,
                 notes: &notes,
             };
-            match open_plan(rt, alloc, plan) {
-                Ok(plan) => {
-                    inventory::inventory(rt, alloc, target, plan, &mut report, &mut errors)
-                }
-                Err(no_plan) => refuse(no_plan, &mut errors),
-            }
+            run_inventory(rt, target, plan, labels, &mut errors)
         }
-        NetworkCommand::Loop { plan } => match open_plan(rt, alloc, plan) {
-            Ok(plan) => both_ends::run_both_ends(
-                rt,
-                alloc,
-                plan,
-                &mut input,
-                &mut report,
-                &mut errors,
-            ),
-            Err(no_plan) => refuse(no_plan, &mut errors),
-        },
-        NetworkCommand::Watch { host, words } => match address_of(host) {
-            None => refuse_words(NO_ADDRESS, &mut errors),
-            Some(reader) => match watch_clash(words) {
-                Some(said) => refuse_words(said, &mut errors),
-                None => watch::watch(rt, reader, words),
-            },
-        },
-        NetworkCommand::Stop { host, words } => match address_of(host) {
-            None => refuse_words(NO_ADDRESS, &mut errors),
-            Some(reader) => match stop_clash(words) {
-                Some(said) => refuse_words(said, &mut errors),
-                None => watch::stop(rt, reader, words),
-            },
-        },
-        NetworkCommand::Ask { host, words } => match address_of(host) {
-            None => refuse_words(NO_ADDRESS, &mut errors),
-            Some(reader) => ask::ask(rt, reader, words),
-        },
-        NetworkCommand::Access { host, words } => match address_of(host) {
-            None => refuse_words(NO_ADDRESS, &mut errors),
-            Some(reader) => {
-                let texts = access_command::operation_texts(alloc, said)?;
-                access_command::access(rt, reader, words, &texts)
-            }
-        },
+        NetworkCommand::Loop { plan } => run_loop(rt, plan, &mut errors),
+        NetworkCommand::Watch { host, words } => run_watch(rt, host, words, &mut errors),
+        NetworkCommand::Stop { host, words } => run_stop(rt, host, words, &mut errors),
+        NetworkCommand::Ask { host, words } => run_ask(rt, host, words, &mut errors),
+        NetworkCommand::Access { host, words } => { run_access(rt, host, words, said, &mut errors) }
     }
 }
 

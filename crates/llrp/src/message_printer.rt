@@ -27,7 +27,7 @@ pub struct MessagePrinter<'a, W: Write + Drop> {
 }
 
 impl<'a, W: Write + Drop> MessagePrinter<'a, W> {
-    /// One of a connection of which nothing was read, where a message has at most `limit` octets.
+    /// A printer for a connection of which nothing was read, where a message has at most `limit` octets.
     pub fn new(
         rt: &'a HostRuntime,
         deadline: &'a Deadline,

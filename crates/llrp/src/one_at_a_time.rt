@@ -10,11 +10,11 @@ use std::mem;
 use std::net::{TcpListener, TcpStream};
 use std::time::Duration;
 
-/// For how many milliseconds it is waited for what a client that is refused has sent.
+/// For how many milliseconds each read from a client that is refused, and each write to it, may wait.
 const PATIENCE: u64 = 1;
 
-/// The listing of what a reader says to a client that comes while it serves one: a ConnectionAttemptEvent with the status that a
-/// client has a connection already (LLRP 1.1, section 14.2.2.11).
+/// The listing of what a reader says to a client that comes while it serves one: a ConnectionAttemptEvent
+/// with the status that a client has a connection already (LLRP 1.1, section 14.2.2.11).
 fn refusal_text(alloc: Global, now: u64) -> Result<Text, AllocError> {
     let mut text = Text::new(alloc);
     text.push_text(b"0 READER_EVENT_NOTIFICATION 1 1\n1 ReaderEventNotificationData\n")?;
@@ -33,7 +33,7 @@ fn skip_sent(stream: &TcpStream) {
     }
 }
 
-/// Refuses a client. What it has sent is not looked at. Returns whether it took the refusal.
+/// Refuses a client. What it has sent is not looked at. Returns whether the refusal was sent.
 fn refuse_client(alloc: Global, now: u64, stream: &TcpStream) -> bool {
     let Ok(text) = refusal_text(alloc, now) else {
         return false;
@@ -50,7 +50,7 @@ fn refuse_client(alloc: Global, now: u64, stream: &TcpStream) -> bool {
 #[derive(Drop)]
 pub struct Clients<'a> {
     listener: &'a TcpListener,
-    /// One that came while another was served.
+    /// The client that came while another was served.
     waiting: Option<TcpStream>,
 }
 
@@ -63,8 +63,8 @@ impl<'a> Clients<'a> {
         }
     }
 
-    /// The next client to serve, which is waited for. From then on others are not waited for. `None`
-    /// means that the network failed.
+    /// The next client to serve: the one that waits, or else the next one to come. From then on
+    /// [`Clients::refuse`] waits for no client. `None` means that the network failed.
     pub fn next(&mut self) -> Option<TcpStream> {
         if let Some(waiting) = mem::replace(&mut self.waiting, None) {
             return Some(waiting);
@@ -75,14 +75,16 @@ impl<'a> Clients<'a> {
         Some(stream)
     }
 
-    /// Refuses a client that came before the last call, and lets the next one that came wait. So a client
-    /// that comes when the one that is served has just ended is not refused.
-    pub fn refuse(&mut self, alloc: Global, now: u64) {
-        if let Some(waiting) = mem::replace(&mut self.waiting, None) {
-            refuse_client(alloc, now, &waiting);
+    /// Refuses the client that waits, and lets the next one wait, if one came. So a client that comes when
+    /// the one that is served has just ended is not refused. Returns whether a client was refused.
+    pub fn refuse(&mut self, alloc: Global, now: u64) -> bool {
+        let waiting = mem::replace(&mut self.waiting, None);
+        if let Some(waiting) = &waiting {
+            refuse_client(alloc, now, waiting);
         }
         if let Ok((stream, _)) = self.listener.accept() {
             self.waiting = Some(stream);
         }
+        waiting.is_some()
     }
 }

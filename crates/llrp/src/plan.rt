@@ -23,7 +23,7 @@ const REFUSED: u8 = 1;
 /// Why the words have no plan.
 #[derive(Clone, Copy, Debug, PartialEq, Eq)]
 pub enum NoPlan {
-    /// The file of the ROSpec cannot be opened, or not read.
+    /// The file of the ROSpec cannot be opened or read.
     Unread,
     /// A line of it, counted from 1, is refused.
     Line { line: u64, reason: Refusal },
@@ -110,8 +110,8 @@ pub fn plan_of(alloc: Global, words: PlanWords<'_>) -> Result<Plan, NoPlan>
     }
 }
 
-/// The plan of words whose ROSpec this source has, with `all` one of the whole standard. It is read to its end, or until no plan has a text
-/// that begins so.
+/// The plan of words whose ROSpec this source has, with `all` one of the whole standard. It is read to its
+/// end, or until no plan has a text that begins so.
 pub fn read_plan<R: Source>(alloc: Global, words: PlanWords<'_>, r: &mut R) -> Result<Plan, NoPlan>
     requires { IsFreshSource (R.log r.old) }
     ensures { ReadsPlan words.entry (R.log r.old) (R.log r.new) result }

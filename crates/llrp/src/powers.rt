@@ -79,7 +79,8 @@ impl Question<'_> {
     }
 
     /// Takes a message, and appends what is said then; nothing to the answer, after which the plan begins.
-    /// Returns what the reader offers, if this is the answer. The error is `Peer` if the reader refuses the connection or the request.
+    /// Returns what the reader offers, if this is the answer. The error is `Peer` if the reader refuses the
+    /// connection or the request.
     fn hear(&mut self, message: &Message, said: &mut Vec<u8>) -> Result<Option<Offer>, ToolErr> {
         let before = self.asking.phase();
         let mut more = Vec::new(self.alloc);
@@ -107,7 +108,7 @@ impl Question<'_> {
         awaits_acceptance(self.asking.phase()) && !is_unknown
     }
 
-    /// Takes what a frame is.
+    /// Takes the message of a frame, or its fault.
     fn take(&mut self, item: Item, said: &mut Vec<u8>) -> Result<Option<Offer>, ToolErr> {
         match item {
             Item::Msg(message) => self.hear(&message, said),
@@ -168,8 +169,8 @@ impl Question<'_> {
     }
 }
 
-/// Asks the reader whose octets the source gives what it offers to who wants at most this power, as a
-/// level, once it has accepted the connection. KEEPALIVEs are answered meanwhile.
+/// Asks the reader whose octets the source gives what it offers to a client that wants at most this power, as
+/// a level, once it has accepted the connection. KEEPALIVEs are answered meanwhile.
 ///
 /// The errors are `Peer` if it refuses the connection or the request, `Read`, `Write`, `Memory`, `Early`
 /// if the source ends, `Broken` for a length field below 10, `Strange` for an answer without capabilities

@@ -1,4 +1,4 @@
-//! A sink for tag lines that shows a person at a terminal how many tags came so far.
+//! How many tags came so far, shown to a person at a terminal, and a sink for tag lines that shows it.
 
 ghost use Rattle.std.specs.Prelude.{◌≡◌};
 
@@ -6,11 +6,9 @@ use llrp_stream::Sink;
 use std::io;
 use std::io::Write;
 
-/// Passes each write on to a sink. If there is a terminal, it shows there that the client is
-/// connected and how many tags came so far, and removes that before each write.
+/// Shows at a terminal, if there is one, that the client is connected and how many tags came so far.
 #[derive(Drop)]
-pub struct Progress<W: Sink + Drop, T: Write + Drop> {
-    sink: W,
+pub struct TagCount<T: Write + Drop> {
     terminal: Option<T>,
     tags: u64,
     /// How many bytes of the last line came, or the greatest number.
@@ -28,13 +26,10 @@ fn shows_tag(column: u8, byte: u8) -> bool {
     }
 }
 
-impl<W: Sink + Drop, T: Write + Drop> Progress<W, T> {
-    /// A sink to which nothing was written yet, and which shows nothing yet.
-    pub fn new(sink: W, terminal: Option<T>) -> Progress<W, T>
-        ensures { ⟦<Progress<W, T> as Sink>⟧.log result ≡ W.log sink }
-    {
-        Progress {
-            sink,
+impl<T: Write + Drop> TagCount<T> {
+    /// A count of no tags, which is not shown yet.
+    pub fn new(terminal: Option<T>) -> TagCount<T> {
+        TagCount {
             terminal,
             tags: 0,
             column: 0,
@@ -42,9 +37,7 @@ impl<W: Sink + Drop, T: Write + Drop> Progress<W, T> {
     }
 
     /// Counts the lines of tags in these bytes, each once.
-    fn count(&mut self, lines: &[u8])
-        ensures { self.new.sink ≡ self.old.sink }
-    {
+    pub fn add(&mut self, lines: &[u8]) {
         for &byte in lines {
             if shows_tag(self.column, byte) {
                 self.tags = self.tags.saturating_add(1);
@@ -58,13 +51,45 @@ impl<W: Sink + Drop, T: Write + Drop> Progress<W, T> {
     }
 
     /// Shows how many tags came. If writing to the terminal fails, that is ignored.
+    pub fn show(&mut self) {
+        if let Some(terminal) = &mut self.terminal {
+            let _shown = write!(terminal, "\rllrp: connected, {} tags", self.tags);
+        }
+    }
+
+    /// Removes what is shown.
+    pub fn wipe(&mut self) {
+        if let Some(terminal) = &mut self.terminal {
+            let _wiped = terminal.write_all(b"\r\x1b[K");
+        }
+    }
+}
+
+/// Passes each write on to a sink. If there is a terminal, it shows there that the client is
+/// connected and how many tags came so far, and removes that before each write.
+#[derive(Drop)]
+pub struct Progress<W: Sink + Drop, T: Write + Drop> {
+    sink: W,
+    count: TagCount<T>,
+}
+
+impl<W: Sink + Drop, T: Write + Drop> Progress<W, T> {
+    /// A sink to which nothing was written yet, and which shows nothing yet.
+    pub fn new(sink: W, terminal: Option<T>) -> Progress<W, T>
+        ensures { ⟦<Progress<W, T> as Sink>⟧.log result ≡ W.log sink }
+    {
+        Progress {
+            sink,
+            count: TagCount::new(terminal),
+        }
+    }
+
+    /// Shows how many tags came.
     pub fn show(&mut self)
         ensures { ⟦<Progress<W, T> as Sink>⟧.log self.new
             ≡ ⟦<Progress<W, T> as Sink>⟧.log self.old }
     {
-        if let Some(terminal) = &mut self.terminal {
-            let _shown = write!(terminal, "\rllrp: connected, {} tags", self.tags);
-        }
+        self.count.show();
     }
 
     /// Removes what is shown.
@@ -72,9 +97,7 @@ impl<W: Sink + Drop, T: Write + Drop> Progress<W, T> {
         ensures { ⟦<Progress<W, T> as Sink>⟧.log self.new
             ≡ ⟦<Progress<W, T> as Sink>⟧.log self.old }
     {
-        if let Some(terminal) = &mut self.terminal {
-            let _wiped = terminal.write_all(b"\r\x1b[K");
-        }
+        self.count.wipe();
     }
 }
 
@@ -82,10 +105,10 @@ impl<W: Sink + Drop, T: Write + Drop> Sink for Progress<W, T> {
     ghost log = { λ s. W.log s.sink };
 
     fn write(&mut self, buf: &[u8]) -> io::Result<usize> {
-        self.wipe();
+        self.count.wipe();
         let n = self.sink.write(buf)?;
-        self.count(buf.split_at(n).0);
-        self.show();
+        self.count.add(buf.split_at(n).0);
+        self.count.show();
         Ok(n)
     }
 }

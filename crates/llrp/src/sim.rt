@@ -2,7 +2,7 @@
 
 ghost use Rattle.std.specs.Prelude.{◌≡◌};
 ghost use Rattle.llrp_stream.specs.Device.{IsFreshSink, IsFreshSource};
-ghost use Rattle.llrp.specs.Calls.Clients.{RunsSim, ServesAt, listens_on};
+ghost use Rattle.llrp.specs.Calls.Clients.{IsPortOf, RunsSim, ServesAt, listens_on};
 ghost use Rattle.llrp.specs.Calls.Network.{MayServe, ServesSo};
 
 use crate::clients::{most_clients, say_ready, serve_clients};
@@ -15,7 +15,7 @@ use llrp_stream::{Input, Output, Sink, Source};
 use std::alloc::Global;
 use std::net::{Net, TcpListener, TcpStream};
 
-/// Serves the client of a stream by a script, and answers requests outside the profile or not.
+/// Serves the client of a stream by a script; with `all` it answers requests outside the profile.
 fn serve_stream(alloc: Global, stream: &TcpStream, script: Script, all: bool) -> Result<(), ToolErr>
     ensures { ServesSo all script result }
 {
@@ -56,7 +56,20 @@ pub fn listens_on(bind: Option<&str>) -> &str
     }
 }
 
-/// Listens where the words say, says so if it is to, and serves clients by a script.
+/// The port of a listener that was to listen on port `wanted`, or on a free port where that is 0.
+pub fn port_of(listener: &TcpListener, wanted: u16) -> u16
+    ensures { IsPortOf wanted result }
+{
+    if wanted > 0 {
+        return wanted;
+    }
+    match listener.local_addr() {
+        Ok(address) => address.port(),
+        Err(_) => wanted,
+    }
+}
+
+/// Listens where the words say, writes where that is if they ask for it, and serves clients by a script.
 fn serve_at<N: Net<Listener = TcpListener, Stream = TcpStream>, E: Sink>(
     net: &N,
     alloc: Global,
@@ -72,7 +85,7 @@ fn serve_at<N: Net<Listener = TcpListener, Stream = TcpStream>, E: Sink>(
         return conclude(None, e);
     };
     if words.ready {
-        say_ready(alloc, address, words.port, e)?;
+        say_ready(alloc, address, port_of(&listener, words.port), e)?;
     }
     let most = most_clients(words.clients);
     serve_clients(alloc, &listener, script, words.all, most, e)

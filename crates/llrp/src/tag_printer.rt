@@ -1,4 +1,4 @@
-//! Prints the tags of a client that lasts, each line with the host's time.
+//! Prints the tags of a client that lasts, each line with its labels and the host's time.
 
 ghost use Rattle.std.specs.Prelude.{◌≡◌, ◌≤◌, [], IfErr, OnOk};
 ghost use Rattle.std.specs.Io.KnownBytes.{Appends};
@@ -7,7 +7,9 @@ ghost use Rattle.llrp_listing.specs.declared.outcome.ToolErr.TheVariants.{Write 
 ghost use Rattle.llrp_tree.specs.declared.TheConstants.{MAX_LIMIT};
 
 use crate::deadline::Deadline;
+use crate::labels::labelled_lines;
 use llrp_endpoints::{LineForm, TagLister, Watcher, marked_lines};
+use llrp_labels::Labels;
 use llrp_listing::{Text, ToolErr};
 use std::alloc::Global;
 use std::io::Write;
@@ -24,14 +26,15 @@ fn micros_now(rt: &HostRuntime) -> u64 {
     u64::try_from(since.as_micros()).unwrap_or(u64::MAX)
 }
 
-/// Prints the lines of the tags of the reports that a read completed, with the moment at which the read
-/// ended and the name of the reader, and says whether the time is up.
+/// Prints the lines of the tags of the reports that a read completed, with their labels, the moment at which
+/// the read ended and the name of the reader, and says whether the time is up.
 #[derive(Drop)]
 pub struct TagPrinter<'a, W: Write + Drop> {
     rt: &'a HostRuntime,
     alloc: Global,
     deadline: &'a Deadline,
     lister: TagLister,
+    labels: Option<Labels>,
     name: Option<&'a [u8]>,
     output: W,
     has_printed: bool,
@@ -39,11 +42,12 @@ pub struct TagPrinter<'a, W: Write + Drop> {
 }
 
 impl<'a, W: Write + Drop> TagPrinter<'a, W> {
-    /// One of a connection of which nothing was read, where a message has at most `limit` octets.
+    /// A printer for a connection of which nothing was read, where a message has at most `limit` octets.
     pub fn new(
         rt: &'a HostRuntime,
         deadline: &'a Deadline,
         form: LineForm,
+        labels: Option<Labels>,
         name: Option<&'a [u8]>,
         limit: u32,
         output: W,
@@ -52,6 +56,7 @@ impl<'a, W: Write + Drop> TagPrinter<'a, W> {
         requires most { limit ≤ MAX_LIMIT }
         ensures lister { HasTags limit [] [] result.lister }
         ensures form { result.lister.form ≡ form }
+        ensures labels { result.labels ≡ labels }
         ensures name { result.name ≡ name.entry }
         ensures contents { W.contents result.output ≡ W.contents output }
     {
@@ -60,6 +65,7 @@ impl<'a, W: Write + Drop> TagPrinter<'a, W> {
             alloc: rt.alloc(),
             deadline,
             lister: TagLister::new(rt.alloc(), form, limit),
+            labels,
             name,
             output,
             has_printed: false,
@@ -83,6 +89,7 @@ impl<'a, W: Write + Drop> TagPrinter<'a, W> {
             (W.contents self.new.output) text.now) }
         ensures write { IfErr result (λ error. error ≡ WriteFails) }
         ensures lister { self.new.lister ≡ self.old.lister }
+        ensures labels { self.new.labels ≡ self.old.labels }
         ensures name { self.new.name ≡ self.old.name }
     {
         if self.output.write_all(text).is_err() {
@@ -98,14 +105,15 @@ impl<W: Write + Drop> Watcher for TagPrinter<'_, W> {
     ghost use Rattle.llrp_endpoints.specs.MarkedLines.{name_in};
     ghost use Rattle.llrp.specs.Calls.Watch.{PrintsTo};
 
-    ghost has = { λ p. PrintsTo p.lister (name_in p.name) (W.contents p.output) };
+    ghost has = { λ p. PrintsTo p.lister p.labels (name_in p.name) (W.contents p.output) };
 
     fn turn(&mut self, piece: &[u8], _lines: &[u8]) -> Result<bool, ToolErr> {
         let micros = micros_now(self.rt);
         let mut lines = Text::new(self.alloc);
         self.lister.feed(piece, &mut lines)?;
         let form = self.lister.form();
-        let text = marked_lines(self.alloc, form, micros, self.name, lines.as_slice())?;
+        let labelled = labelled_lines(self.alloc, self.labels, form, lines.as_slice())?;
+        let text = marked_lines(self.alloc, form, micros, self.name, labelled.as_slice())?;
         self.print(text.as_slice())?;
         Ok(self.deadline.tell(self.rt))
     }

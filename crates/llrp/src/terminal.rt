@@ -21,8 +21,8 @@ pub fn say_waiting(rt: &HostRuntime, words: &[String]) -> Result<(), ToolErr> {
     Ok(())
 }
 
-/// Says on a terminal what a person can do about an input, if the command's exit status is that of one that was refused and the
-/// input's first octets show that. If writing that fails, it is ignored.
+/// Says on a terminal what a person can do about an input, if the command's exit status is that of one that
+/// was refused and the input's first octets show that. If writing that fails, it is ignored.
 pub fn say_hint<R: Source + Drop>(
     rt: &HostRuntime,
     words: &[String],

@@ -1,10 +1,12 @@
 //! The commands `watch` and `stop`: a client that lasts, and one that deletes the ROSpec that it
 //! left.
 
-ghost use Rattle.std.specs.Prelude.{◌≡◌, None};
+ghost use Rattle.std.specs.Prelude.{◌≡◌, [], IsSome, None};
 ghost use Rattle.llrp_stream.specs.Calls.Device.{CanWrite, new_source};
 ghost use Rattle.llrp_stream.specs.Device.{IsFreshSink, IsFreshSource};
 ghost use Rattle.llrp_commands.specs.Calls.Arguments.{IsLongest};
+ghost use Rattle.llrp.specs.Calls.Refusals.{HasHeard};
+ghost use Rattle.llrp.specs.Private.Refusals.{ended_by};
 ghost use Rattle.llrp.specs.Calls.Watch.{FollowsLasting, FollowsStop, PrintsMessages, PrintsTo};
 ghost use Rattle.llrp_endpoints.specs.MarkedLines.{name_in};
 
@@ -15,7 +17,9 @@ use crate::deadline::{Deadline, Until, end_after, is_past, no_longer};
 use crate::decibels::read_power;
 use crate::farewell::leave;
 use crate::faults::FaultFinder;
-use crate::heard_frames::{Asking, Listening};
+use crate::heard_frames::Asking;
+use crate::labels::asked_labels;
+use crate::listening::Listening;
 use crate::message_printer::MessagePrinter;
 use crate::network::{FAILED, conclude};
 use crate::noted::Noted;
@@ -43,7 +47,7 @@ use std::time::{Duration, Instant};
 /// The most octets that a message may have for `stop`.
 const MOST_OCTETS: u32 = 1_048_576;
 
-/// After how many periods without an octet the reader is dead.
+/// After how many periods without an octet the reader is taken for dead.
 const SILENT_PERIODS: u64 = 3;
 
 /// For how many seconds `stop` waits for a reader where nothing is said of it.
@@ -64,8 +68,10 @@ pub fn take_lasting<R: Source, S: Sink, W: Write + Drop>(
     requires sink { IsFreshSink (S.log sink.old) }
     ensures { FollowsLasting limit plan (R.log source.old) (R.log source.new) (S.log sink.old)
         (S.log sink.new)
-        (PrintsTo printer.old.lister (name_in printer.old.name) (W.contents printer.old.output))
-        (PrintsTo printer.new.lister (name_in printer.new.name) (W.contents printer.new.output))
+        (PrintsTo printer.old.lister printer.old.labels (name_in printer.old.name)
+        (W.contents printer.old.output))
+        (PrintsTo printer.new.lister printer.new.labels (name_in printer.new.name)
+        (W.contents printer.new.output))
         result }
 {
     run_watching(alloc, plan, limit, source, sink, printer)?;
@@ -215,19 +221,22 @@ fn take_wanted<R: Source + Drop, S: Sink, P: Printing>(
 }
 
 /// What finds the faulty frames of a connection, and the refusals of what is sent beside its plan.
-fn finder_of<'a>(alloc: Global, watch: Watching<'a>, deadline: &'a Deadline) -> FaultFinder<'a>
+fn finder_of<'a>(alloc: Global, watch: Watching<'a>) -> FaultFinder<'a>
     requires { IsLongest watch.words.limit }
+    ensures { IsSome watch.entry.access → HasHeard watch.entry.words.limit [] result }
 {
-    let faults = FaultFinder::new(alloc, watch.words.limit, watch.warnings);
     match watch.access {
-        Some(_) => faults.ending(deadline),
-        None => faults,
+        Some(_) => FaultFinder::heeding(alloc, watch.words.limit, watch.warnings),
+        None => FaultFinder::new(alloc, watch.words.limit, watch.warnings),
     }
 }
 
-/// How a connection ended: by a refusal of what was sent beside the plan, or else as its run did.
-fn refused_or(deadline: &Deadline, outcome: Result<(), Stopped>) -> Result<(), Stopped> {
-    match deadline.refused() {
+/// How a connection ended: by a refusal of what was sent beside the plan, if one came, or else as its run
+/// did.
+fn refused_or(refused: Option<u16>, outcome: Result<(), Stopped>) -> Result<(), Stopped>
+    ensures { result ≡ ended_by refused outcome }
+{
+    match refused {
         Some(status) => Err(Stopped::Run(ToolErr::Peer(status))),
         None => outcome,
     }
@@ -251,11 +260,11 @@ fn watch_stream<P: Printing>(
     let pending = Cell::new(None);
     let reads = Until::new(rt, stream, deadline, silence(watch.words));
     let saved = Saved::new(alloc, limit, reads, saving);
-    let faults = finder_of(alloc, watch, deadline);
+    let faults = finder_of(alloc, watch);
     let source = Listening::new(alloc, saved, faults, watch.notes, &pending);
     let mut sink = Noted::new(Asking::new(alloc, Output::new(stream), &pending));
     let (taken, source) = take_wanted(alloc, plan, watch, source, &mut sink, printer);
-    let mut outcome = refused_or(deadline, taken);
+    let mut outcome = refused_or(source.refused(), taken);
     let is_read = outcome == Err(Stopped::Run(ToolErr::Read));
     let before = deletions(alloc, watch.access);
     if is_read && sink.took() && deadline.is_missed(rt) {
@@ -357,7 +366,8 @@ fn watch_once(
     }
     let form = watch_form(words);
     let name = reader_name(words);
-    let mut printer = TagPrinter::new(rt, &deadline, form, name, words.limit, rt.stdout());
+    let labels = asked_labels(words.labels);
+    let mut printer = TagPrinter::new(rt, &deadline, form, labels, name, words.limit, rt.stdout());
     watch_connection(rt, reader, plan, watch, &deadline, saving, &mut printer)
 }
 
@@ -447,7 +457,7 @@ fn stop_once(
     })
 }
 
-/// Whether the reader refused the connection, as it has another one or could not tell.
+/// Whether the reader refused the connection because it has another one, or for another reason.
 fn is_refused(outcome: Option<Result<(), ToolErr>>) -> bool {
     matches!(outcome, Some(Err(ToolErr::Peer(1..=3))))
 }

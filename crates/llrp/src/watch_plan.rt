@@ -74,8 +74,8 @@ fn push_configuration(text: &mut Text, transmitter: Option<Transmitter>) -> Resu
     }
 }
 
-/// The lines of a ROSpec with these antennas and this RFTransmitter, which starts and stops on
-/// commands. It reports after this many tags, of each tag its antenna, channel, strength, both times and its count.
+/// The lines of a ROSpec with these antennas and this RFTransmitter, which starts and stops on commands. It
+/// reports after this many tags, of each tag its antenna, channel, strength, both times and its count.
 fn rospec_text(alloc: Global, made: MadeRoSpec<'_>) -> Result<Text, AllocError>
     ensures { IfOk result (λ text. text ≡ rospec_text made.entry) }
 {

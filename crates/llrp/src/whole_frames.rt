@@ -34,7 +34,7 @@ pub fn whole_octets(octets: &[u8], limit: u32) -> usize
     octets.len() - rest.len()
 }
 
-/// What is there of a frame that is longer than the limit.
+/// A frame that is longer than the limit, as far as it is there.
 #[derive(Clone, Copy)]
 struct LongFrame<'a> {
     /// What follows it.

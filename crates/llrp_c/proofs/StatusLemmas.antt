@@ -11,7 +11,7 @@ use Rattle.llrp_c.specs.declared.status.JsonRule.TheVariants as json
 use Rattle.llrp_c.specs.declared.status.KeyRule.{KeyRule}
 use Rattle.llrp_c.specs.declared.status.KeyRule.TheVariants as key
 use Rattle.llrp_c.specs.declared.status.Status.{Status}
-use Rattle.llrp_c.specs.declared.status.Status.TheVariants.{Done, Faulty, Broken, Room, Length, Utf8, Long, Memory, More, Word, Uri, Line, Level, Name, Fields, Number, Tail, OverLimit, Node, Key, Json}
+use Rattle.llrp_c.specs.declared.status.Status.TheVariants.{Done, Faulty, Broken, Room, Length, Utf8, Long, Memory, More, Word, Serial, Code, Uri, Line, Level, Name, Fields, Number, Tail, OverLimit, Node, Key, Json}
 use Rattle.tag_epc.specs.Faults.{word_fault_name}
 use Rattle.tag_uri.specs.TagText.{fault_name}
 use Rattle.llrp_listing.specs.declared.outcome.Refusal.TheVariants as refusal
@@ -79,6 +79,8 @@ codes_apart Utf8 = refl
 codes_apart Long = refl
 codes_apart Memory = refl
 codes_apart More = refl
+codes_apart Serial = refl
+codes_apart Code = refl
 codes_apart Line = refl
 codes_apart Level = refl
 codes_apart Name = refl
@@ -149,6 +151,8 @@ short_name Utf8 = omega arith
 short_name Long = omega arith
 short_name Memory = omega arith
 short_name More = omega arith
+short_name Serial = omega arith
+short_name Code = omega arith
 short_name Line = omega arith
 short_name Level = omega arith
 short_name Name = omega arith

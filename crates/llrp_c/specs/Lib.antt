@@ -3,6 +3,8 @@ pub mod Next
 pub mod Reports
 pub mod Status
 pub mod Tags
+pub mod AllSchemes
 pub mod JsonLines
 pub mod Keys
+pub mod Calls
 pub mod Private

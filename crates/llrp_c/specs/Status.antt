@@ -18,7 +18,7 @@ use Rattle.llrp_c.specs.declared.status.JsonRule.TheVariants as json
 use Rattle.llrp_c.specs.declared.status.KeyRule.{KeyRule}
 use Rattle.llrp_c.specs.declared.status.KeyRule.TheVariants as key
 use Rattle.llrp_c.specs.declared.status.Status.{Status}
-use Rattle.llrp_c.specs.declared.status.Status.TheVariants.{Done, Faulty, Broken, Room, Length, Utf8, Long, Memory, More, Word, Uri, Line, Level, Name, Fields, Number, Tail, OverLimit, Node, Key, Json}
+use Rattle.llrp_c.specs.declared.status.Status.TheVariants.{Done, Faulty, Broken, Room, Length, Utf8, Long, Memory, More, Word, Serial, Code, Uri, Line, Level, Name, Fields, Number, Tail, OverLimit, Node, Key, Json}
 
 -- the code of the part of a word that fails
 abbrev pub word_code : WordReason → ℕ
@@ -96,6 +96,8 @@ code_of Long = 6
 code_of Memory = 7
 code_of More = 8
 code_of (Word reason) = word_code reason
+code_of Serial = 21
+code_of Code = 22
 code_of (Uri fault) = uri_code fault
 code_of Line = 48
 code_of Level = 49
@@ -120,6 +122,8 @@ status_name Long = codes "Long"
 status_name Memory = codes "Memory"
 status_name More = codes "More"
 status_name (Word reason) = word_fault_name reason
+status_name Serial = codes "Serial"
+status_name Code = codes "Code"
 status_name (Uri fault) = fault_name fault
 status_name Line = codes "Line"
 status_name Level = codes "Level"
@@ -162,7 +166,7 @@ status_of_member reason.OverLimit = OverLimit
 unfoldable pub statuses : List Status
 statuses =
     Done ∷ Faulty ∷ Broken ∷ Room ∷ Length ∷ Utf8 ∷ Long ∷ Memory ∷ More ∷
-    Word word.Header ∷ Word word.Partition ∷ Word word.Prefix ∷ Word word.Reference ∷ Word word.Zeros ∷
+    Word word.Header ∷ Word word.Partition ∷ Word word.Prefix ∷ Word word.Reference ∷ Word word.Zeros ∷ Serial ∷ Code ∷
     Uri uri.Start ∷ Uri uri.Scheme ∷ Uri uri.Parts ∷ Uri uri.Digit ∷ Uri uri.LeadingZero ∷
     Uri uri.Filter ∷ Uri uri.Digits ∷ Uri uri.Range ∷ Uri uri.RawForm ∷ Uri uri.RawOfLawful ∷
     Line ∷ Level ∷ Name ∷ Fields ∷ Number ∷ Tail ∷ OverLimit ∷

@@ -70,8 +70,9 @@ fn encode_in(
     }
 }
 
-/// Writes the octets of the messages that lines of JSON say to `octets`, how many they are to `written`, and, if a line is refused, its
-/// number to `line`, the path of its member to `path` and the path's length to `path_written`; these numbers are 0 if none is.
+/// Writes the octets of the messages that lines of JSON say to `octets`, how many they are to `written`, and,
+/// if a line is refused, its number to `line`, the path of its member to `path` and the path's length to
+/// `path_written`; these numbers are 0 if none is.
 #[unsafe(no_mangle)]
 pub extern "C" fn llrp_encode_json(
     alloc: Global,

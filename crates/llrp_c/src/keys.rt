@@ -17,7 +17,8 @@ use tag_forms::{FormFault, form_of, push_forms, word_in};
 use tag_keys::KeyFault;
 use tag_uri::UriFault;
 
-/// Writes a line for each form of a tag's word to `lines`, as `epc --forms` prints them, and their length to `written`.
+/// Writes a line for each form of a tag's word to `lines`, as `epc --forms` prints them, and their length to
+/// `written`.
 #[unsafe(no_mangle)]
 pub extern "C" fn llrp_forms(
     alloc: Global,
@@ -103,7 +104,8 @@ fn known(prefix_digits: u32) -> Option<u8>
     }
 }
 
-/// Writes the word of a text in the form that it begins as, or returns the first rule that refuses it, with the right check digit.
+/// Writes the word of a text in the form that it begins as, or returns the first rule that refuses it, with
+/// the right check digit.
 fn read(text: &str, filter: u8, company_digits: Option<u8>, word: &mut [u8]) -> (Status, u32)
     requires twelve { length word.old ≡ 12 }
     requires filter { filter < 8 }
@@ -119,8 +121,9 @@ fn read(text: &str, filter: u8, company_digits: Option<u8>, word: &mut [u8]) -> 
     }
 }
 
-/// Writes the twelve octets of the word of a text to `word`, and to `right` the right check digit where that is wrong, else 0. The text is
-/// read in the form that it begins as, with this filter value and this number of digits of the company prefix, 0 for one that is not known.
+/// Writes the twelve octets of the word of a text to `word`, and to `right` the right check digit where that
+/// is wrong, else 0. The text is read in the form that it begins as, with this filter value and this number
+/// of digits of the company prefix, 0 for one that is not known.
 #[unsafe(no_mangle)]
 pub extern "C" fn llrp_word_of_key(
     text: &[u8],

@@ -1,10 +1,11 @@
-//! The static library for C, and for every language that can call C: tags, their texts and their keys, listings of streams and of their
-//! frames, what reports say of tags, and streams of listings, on buffers and numbers that the caller passes. No call keeps anything
-//! between two calls.
+//! The static library for C, and for every language that can call C: tags, their texts and their keys,
+//! listings of streams and of their frames, each field of these, what reports say of tags, and streams of
+//! listings, on buffers and numbers that the caller passes. No call keeps anything between two calls.
 //!
-//! Use it from any language but Rattle, whose programs call the crates below. `include/llrp.h` declares the functions, and
-//! docs/library.md says how to link them. C passes a slice as a pointer and then a length, and nothing for an allocator. Each
-//! function here is thin: it calls the crates below, and says how that ended as a `Status`, whose code it returns.
+//! Use it from any language but Rattle, whose programs call the crates below. `include/llrp.h` declares the
+//! functions, and docs/library.md says how to link them. C passes a slice as a pointer and then a length, and
+//! nothing for an allocator. Each function here is thin: it calls the crates below, and says how that ended
+//! as a `Status`, whose code it returns.
 //!
 //! ```c
 //! uint8_t word[LLRP_WORD_OCTETS];
@@ -12,6 +13,8 @@
 //! ```
 #![tactic(auto)]
 
+mod all_schemes;
+mod explaining;
 mod frames;
 mod json_lines;
 mod keys;

@@ -82,8 +82,8 @@ fn listing_of(alloc: Global, json: bool, set: KindSet, stream: &[u8]) -> Option<
     }
 }
 
-/// The listing of the first octets of a stream, or their lines of JSON: of these whole frames, or of all if it
-/// breaks after them; `None` if memory ran out.
+/// The listing of the first octets of a stream, or their lines of JSON: of these whole frames, or of all if
+/// it breaks after them; `None` if memory ran out.
 pub(crate) fn list_part(
     alloc: Global,
     json: bool,

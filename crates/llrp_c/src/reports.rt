@@ -24,8 +24,8 @@ use tag_uri::put_text_of_word;
 pub struct Tag {
     /// FirstSeenTimestampUTC, in microseconds.
     pub first_seen: u64,
-    /// Which of the others the report says: the sum of 1 for `word` and `text`, 2 for `antenna`, 4 for `rssi`, 8
-    /// for `first_seen` and 16 for `count`.
+    /// Which of the others the report says: the sum of 1 for `word` and `text`, 2 for `antenna`, 4 for
+    /// `rssi`, 8 for `first_seen` and 16 for `count`.
     pub has: u32,
     /// AntennaID.
     pub antenna: u16,
@@ -193,7 +193,8 @@ fn put_tags(tags: &[Tag], room: &mut [Tag]) -> u32
     Status::Done.code()
 }
 
-/// Writes what the message of a frame says of its tags to the front of `tags`, and how many they are to `written`.
+/// Writes what the message of a frame says of its tags to the front of `tags`, and how many they are to
+/// `written`.
 #[unsafe(no_mangle)]
 pub extern "C" fn llrp_tags(
     alloc: Global,

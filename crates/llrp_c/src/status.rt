@@ -1,6 +1,6 @@
 //! How a call ended.
 
-ghost use Rattle.std.specs.Prelude.{◌≡◌, ◌++◌};
+ghost use Rattle.std.specs.Prelude.{◌≡◌, ◌≤◌, ◌++◌};
 ghost use Rattle.llrp_c.specs.Status.{code_of, json_code, json_name, key_code, key_name, status_name, node_code, status_of, status_of_member, status_with, uri_code, word_code};
 
 use llrp_json_read::Reason;
@@ -64,6 +64,10 @@ pub enum Status {
     More,
     /// The word has no tag URI, because of this part.
     Word(WordReason),
+    /// The word has no tag URI, because its last part is not a 1 and a serial number.
+    Serial,
+    /// The word has no tag URI, or the text is not a word's, because of a code of USDoD-96.
+    Code,
     /// The text is not a word's, because of this rule.
     Uri(UriFault),
     /// The line has no LF at its end, is too long, or has a byte other than printable ASCII.
@@ -241,6 +245,8 @@ impl Status {
             Status::Memory => 7,
             Status::More => 8,
             Status::Word(reason) => word_code(reason),
+            Status::Serial => 21,
+            Status::Code => 22,
             Status::Uri(fault) => uri_code(fault),
             Status::Line => 48,
             Status::Level => 49,
@@ -270,6 +276,8 @@ impl Status {
             Status::Memory => ("Memory", ""),
             Status::More => ("More", ""),
             Status::Word(reason) => (reason.name(), ""),
+            Status::Serial => ("Serial", ""),
+            Status::Code => ("Code", ""),
             Status::Uri(fault) => (fault.name(), ""),
             Status::Line => Refusal::Line.names(),
             Status::Level => Refusal::Level.names(),
@@ -285,9 +293,10 @@ impl Status {
     }
 }
 
-/// The status with this code, if there is one.
+/// The status with a code up to 15, if there is one: how the call itself ended.
 #[tactic(auto, unfolding(crate::specs::Status::status_with, crate::specs::Status::statuses))]
-pub(crate) fn status_with(code: u32) -> Option<Status>
+fn call_status_with(code: u32) -> Option<Status>
+    requires { code ≤ 15 }
     ensures { result ≡ status_with code }
 {
     match code {
@@ -300,11 +309,37 @@ pub(crate) fn status_with(code: u32) -> Option<Status>
         6 => Some(Status::Long),
         7 => Some(Status::Memory),
         8 => Some(Status::More),
+        _ => None,
+    }
+}
+
+/// The status with a code from 16 to 31, if there is one: why a word has no tag URI.
+#[tactic(auto, unfolding(crate::specs::Status::status_with, crate::specs::Status::statuses))]
+fn word_status_with(code: u32) -> Option<Status>
+    requires least { 16 ≤ code }
+    requires most { code ≤ 31 }
+    ensures { result ≡ status_with code }
+{
+    match code {
         16 => Some(Status::Word(WordReason::Header)),
         17 => Some(Status::Word(WordReason::Partition)),
         18 => Some(Status::Word(WordReason::Prefix)),
         19 => Some(Status::Word(WordReason::Reference)),
         20 => Some(Status::Word(WordReason::Zeros)),
+        21 => Some(Status::Serial),
+        22 => Some(Status::Code),
+        _ => None,
+    }
+}
+
+/// The status with a code from 32 to 47, if there is one: the rule that refuses a text.
+#[tactic(auto, unfolding(crate::specs::Status::status_with, crate::specs::Status::statuses))]
+fn uri_status_with(code: u32) -> Option<Status>
+    requires least { 32 ≤ code }
+    requires most { code ≤ 47 }
+    ensures { result ≡ status_with code }
+{
+    match code {
         32 => Some(Status::Uri(UriFault::Start)),
         33 => Some(Status::Uri(UriFault::Scheme)),
         34 => Some(Status::Uri(UriFault::Parts)),
@@ -315,6 +350,18 @@ pub(crate) fn status_with(code: u32) -> Option<Status>
         39 => Some(Status::Uri(UriFault::Range)),
         40 => Some(Status::Uri(UriFault::RawForm)),
         41 => Some(Status::Uri(UriFault::RawOfLawful)),
+        _ => None,
+    }
+}
+
+/// The status with a code from 48 to 63, if there is one: why a line is refused.
+#[tactic(auto, unfolding(crate::specs::Status::status_with, crate::specs::Status::statuses))]
+fn line_status_with(code: u32) -> Option<Status>
+    requires least { 48 ≤ code }
+    requires most { code ≤ 63 }
+    ensures { result ≡ status_with code }
+{
+    match code {
         48 => Some(Status::Line),
         49 => Some(Status::Level),
         50 => Some(Status::Name),
@@ -322,6 +369,18 @@ pub(crate) fn status_with(code: u32) -> Option<Status>
         52 => Some(Status::Number),
         53 => Some(Status::Tail),
         54 => Some(Status::OverLimit),
+        _ => None,
+    }
+}
+
+/// The status with a code from 64 to 79, if there is one: the fault of a parameter or a message.
+#[tactic(auto, unfolding(crate::specs::Status::status_with, crate::specs::Status::statuses))]
+fn node_status_with(code: u32) -> Option<Status>
+    requires least { 64 ≤ code }
+    requires most { code ≤ 79 }
+    ensures { result ≡ status_with code }
+{
+    match code {
         64 => Some(Status::Node(NodeFault::FieldCount)),
         65 => Some(Status::Node(NodeFault::Value)),
         66 => Some(Status::Node(NodeFault::Tail)),
@@ -330,11 +389,34 @@ pub(crate) fn status_with(code: u32) -> Option<Status>
         69 => Some(Status::Node(NodeFault::Missing)),
         70 => Some(Status::Node(NodeFault::TooDeep)),
         71 => Some(Status::Node(NodeFault::TooLong)),
+        _ => None,
+    }
+}
+
+/// The status with a code from 80 to 95, if there is one: the rule that refuses a text in a form.
+#[tactic(auto, unfolding(crate::specs::Status::status_with, crate::specs::Status::statuses))]
+fn key_status_with(code: u32) -> Option<Status>
+    requires least { 80 ≤ code }
+    requires most { code ≤ 95 }
+    ensures { result ≡ status_with code }
+{
+    match code {
         80 => Some(Status::Key(KeyRule::Hex)),
         81 => Some(Status::Key(KeyRule::Prefix)),
         82 => Some(Status::Key(KeyRule::Length)),
         83 => Some(Status::Key(KeyRule::Check)),
         84 => Some(Status::Key(KeyRule::Serial)),
+        _ => None,
+    }
+}
+
+/// The status with a code from 96 on, if there is one: the rule that refuses a line of JSON.
+#[tactic(auto, unfolding(crate::specs::Status::status_with, crate::specs::Status::statuses))]
+fn json_status_with(code: u32) -> Option<Status>
+    requires { 96 ≤ code }
+    ensures { result ≡ status_with code }
+{
+    match code {
         96 => Some(Status::Json(JsonRule::Json)),
         97 => Some(Status::Json(JsonRule::Unknown)),
         98 => Some(Status::Json(JsonRule::Missing)),
@@ -342,5 +424,20 @@ pub(crate) fn status_with(code: u32) -> Option<Status>
         100 => Some(Status::Json(JsonRule::Mistyped)),
         101 => Some(Status::Json(JsonRule::Value)),
         _ => None,
+    }
+}
+
+/// The status with this code, if there is one.
+pub(crate) fn status_with(code: u32) -> Option<Status>
+    ensures { result ≡ status_with code }
+{
+    match code {
+        0..=15 => call_status_with(code),
+        16..=31 => word_status_with(code),
+        32..=47 => uri_status_with(code),
+        48..=63 => line_status_with(code),
+        64..=79 => node_status_with(code),
+        80..=95 => key_status_with(code),
+        _ => json_status_with(code),
     }
 }

@@ -18,7 +18,7 @@ use tag_uri::{put_text_of_word, word_of_text};
 pub(crate) const WORD_OCTETS: usize = 12;
 
 /// The room that is enough for each text of a word.
-const TEXT_ROOM: usize = 64;
+pub(crate) const TEXT_ROOM: usize = 64;
 
 /// The word of these twelve octets.
 pub(crate) fn word_of(octets: &[u8]) -> Word

@@ -11,7 +11,7 @@ use Rattle.clap.specs.Values.{IsSignedIn}
 use Rattle.clap.specs.Words.{Row, Text, without_minus}
 use Rattle.clap.proofs.CallerReads.{signed_reads}
 use Rattle.llrp_tree.specs.declared.TheConstants.{MAX_LIMIT}
-use Rattle.llrp_commands.specs.Private.Parse.{HasEpc, HasFlagWord, HasLimitedWords, HasNumberIn, HasNumberWord, HasPlan, HasAccess, HasAsk, HasSim, HasStop, HasStreamWords, HasWatch, HasWord, IsFound, IsNetworkParse, IsParse, MayHaveNumberIn, HasFields}
+use Rattle.llrp_commands.specs.Private.Parse.{HasEpc, HasFlagWord, HasExplain, HasNumberIn, HasNumberWord, HasPlan, HasAccess, HasAsk, HasSim, HasStop, HasStreamWords, HasWatch, HasWord, IsFound, IsNetworkParse, IsParse, MayHaveNumberIn, HasFields}
 use Rattle.llrp_commands.specs.Calls.Arguments.{IsFlag, least_longest, HasNumber, HasOptionalNumber, flag_in, hex_in, json_in, name_in, all_in}
 use Rattle.llrp_commands.specs.Private.Arguments.{HasFlag}
 
@@ -102,9 +102,9 @@ access_there name rows (inr (inr (inr (inr (inr (inr h)))))) e = (h.1, h.2)
 
 -- what is none of sim, watch, stop, ask, access and loop is inventory, with its host and its port
 pub inventory_there : (name : Text) (rows : List Row) → IsNetworkParse name rows → (name ≡ codes "sim" → ⊥) → (name ≡ codes "watch" → ⊥) → (name ≡ codes "stop" → ⊥) → (name ≡ codes "ask" → ⊥) → (name ≡ codes "access" → ⊥) → (name ≡ codes "loop" → ⊥)
-    → (name ≡ codes "inventory") × HasWord (codes "HOST") rows × HasNumberWord (codes "PORT") rows × HasNumberIn least_longest MAX_LIMIT (codes "limit") rows × HasFlagWord (codes "verbose") rows
+    → (name ≡ codes "inventory") × HasWord (codes "HOST") rows × HasNumberWord (codes "PORT") rows × HasNumberIn least_longest MAX_LIMIT (codes "limit") rows × HasFlagWord (codes "verbose") rows × HasFlagWord (codes "keys") rows
 inventory_there name rows (inl h) no_sim no_watch no_stop no_ask no_access no_loop = absurd (no_sim h.0)
-inventory_there name rows (inr (inl h)) no_sim no_watch no_stop no_ask no_access no_loop = (h.0, h.1, h.2, h.5, h.6)
+inventory_there name rows (inr (inl h)) no_sim no_watch no_stop no_ask no_access no_loop = (h.0, h.1, h.2, h.5, h.6, h.7)
 inventory_there name rows (inr (inr (inl h))) no_sim no_watch no_stop no_ask no_access no_loop = absurd (no_loop h.0)
 inventory_there name rows (inr (inr (inr (inl h)))) no_sim no_watch no_stop no_ask no_access no_loop = absurd (no_watch h.0)
 inventory_there name rows (inr (inr (inr (inr (inl h))))) no_sim no_watch no_stop no_ask no_access no_loop = absurd (no_stop h.0)
@@ -151,7 +151,7 @@ fields_there name rows (inr (inr (inr (inr (inr (inr (inr (inr (inl h))))))))) e
 fields_there name rows (inr (inr (inr (inr (inr (inr (inr (inr (inr h))))))))) e = absurd (differs (codes "access") (codes "fields") refl (sym h.0 ∙ e))
 
 -- explain has what it needs
-pub explain_there : (name : Text) (rows : List Row) → IsParse name rows → name ≡ codes "explain" → HasLimitedWords rows
+pub explain_there : (name : Text) (rows : List Row) → IsParse name rows → name ≡ codes "explain" → HasExplain rows
 explain_there name rows (inl h) e = absurd (differs (codes "show") (codes "explain") refl (sym h.0 ∙ e))
 explain_there name rows (inr (inl h)) e = absurd (differs (codes "encode") (codes "explain") refl (sym h.0 ∙ e))
 explain_there name rows (inr (inr (inl (inl h)))) e = absurd (differs (codes "epc") (codes "explain") refl (sym h.0 ∙ e))
@@ -192,13 +192,14 @@ pub found_fields : (found : Option (Text × List Row)) → IsFound found → nam
 found_fields None h e = absurd h
 found_fields (Some p) h e = fields_there p.0 p.1 h (let same : p.0 ≡ codes "fields" = cc in same)
 
--- where explain was found its flags and its limit are there
+-- where explain was found its flags and its limit are there, and its id may be
 pub found_explain : (found : Option (Text × List Row)) → IsFound found → name_in found ≡ Some (codes "explain")
-    → ((hex : Bool) × IsFlag (hex_in found) hex) × ((all : Bool) × IsFlag (all_in found) all) × ((limit : ℕ) × HasNumber (codes "limit") found limit)
+    → ((hex : Bool) × IsFlag (hex_in found) hex) × ((all : Bool) × IsFlag (all_in found) all) × ((json : Bool) × IsFlag (json_in found) json) × ((limit : ℕ) × HasNumber (codes "limit") found limit) × ((only : Option ℕ) × HasOptionalNumber (codes "only") found only)
 found_explain None h e = absurd h
 found_explain (Some p) h e =
     let has = explain_there p.0 p.1 h (let same : p.0 ≡ codes "explain" = cc in same) in
-    (has.0, has.1, number_of_word 10 MAX_LIMIT (codes "limit") p.0 p.1 has.2)
+    let words = has.0 in
+    (words.0, words.1, words.3, number_of_word 10 MAX_LIMIT (codes "limit") p.0 p.1 words.2, optional_of 0 4294967295 (codes "only") p.0 p.1 has.1)
 
 -- show and encode have their flags and their limit
 pub stream_words_of : (name : Text) (rows : List Row) → IsParse name rows → (name ≡ codes "show") ⊎ (name ≡ codes "encode") → HasStreamWords rows

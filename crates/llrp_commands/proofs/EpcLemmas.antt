@@ -25,44 +25,46 @@ flag_unique found false true (inl p) q =
     absurd (differs (codes "true") (codes "false") refl same)
 flag_unique found false true (inr p) q = let bad : Some (codes "true") ≡ None = sym q ∙ p in cc
 
-number_unique : (id : Text) (found : Option (Text × List Row)) (a b : Option ℕ) → HasOptionalNumber id found a → HasOptionalNumber id found b → a ≡ b
+pub number_unique : (id : Text) (found : Option (Text × List Row)) (a b : Option ℕ) → HasOptionalNumber id found a → HasOptionalNumber id found b → a ≡ b
 number_unique id found None None p q = refl
 number_unique id found (Some m) (Some n) p q = let both : Some (pos m) ≡ Some (pos n) = sym p ∙ q in cc
 number_unique id found (Some m) None p q = let bad : Some (pos m) ≡ None = sym p ∙ ap (option_map (signed_digits_value 10)) q in cc
 number_unique id found None (Some n) p q = let bad : Some (pos n) ≡ None = sym q ∙ ap (option_map (signed_digits_value 10)) p in cc
 
 -- what holds of the options that were read holds of those that the words give
-pub as_asked : (P : Option Text → Bool → Bool → Bool → Option Text → Option ℕ → Option ℕ → Type 0) (words : List Text) (x : EpcWords) (text to : Option Text) (forms list json : Bool) (count filter : Option ℕ) (file : Option Text)
-    → IsEpc (command_in words) x → AsksEpcWith words text forms list json to count filter file
-    → P (option_map (λ t. t.now) x.text) x.forms x.list x.json (option_map (λ t. t.now) x.to) x.company_digits x.filter → P text forms list json to count filter
-as_asked P words x text to forms list json count filter file is asks holds =
+pub as_asked : (P : Option Text → Bool → Bool → Bool → Option Text → Option Text → Option ℕ → Option ℕ → Type 0) (words : List Text) (x : EpcWords) (text to schemes : Option Text) (forms list json : Bool) (count filter : Option ℕ) (file : Option Text)
+    → IsEpc (command_in words) x → AsksEpcWith words text forms list json to schemes count filter file
+    → P (option_map (λ t. t.now) x.text) x.forms x.list x.json (option_map (λ t. t.now) x.to) (option_map (λ t. t.now) x.schemes) x.company_digits x.filter → P text forms list json to schemes count filter
+as_asked P words x text to schemes forms list json count filter file is asks holds =
     let t : option_map (λ t. t.now) x.text ≡ text = sym is.0 ∙ asks.given in
     let f : x.forms ≡ forms = flag_unique _ x.forms forms is.1 asks.all in
     let l : x.list ≡ list = flag_unique _ x.list list is.2 asks.lines in
     let j : x.json ≡ json = flag_unique _ x.json json is.3 asks.object in
     let n : option_map (λ t. t.now) x.to ≡ to = sym is.4 ∙ asks.form in
+    let s : option_map (λ t. t.now) x.schemes ≡ schemes = sym is.8 ∙ asks.set in
     let c : x.company_digits ≡ count = number_unique (codes "prefix-digits") (command_in words) x.company_digits count is.5 asks.digits in
     let v : x.filter ≡ filter = number_unique (codes "filter") (command_in words) x.filter filter is.6 asks.value in
-    subst (λ (z : Option Text). P z forms list json to count filter) t
-    (subst (λ (z : Bool). P (option_map (λ t. t.now) x.text) z list json to count filter) f
-    (subst (λ (z : Bool). P (option_map (λ t. t.now) x.text) x.forms z json to count filter) l
-    (subst (λ (z : Bool). P (option_map (λ t. t.now) x.text) x.forms x.list z to count filter) j
-    (subst (λ (z : Option Text). P (option_map (λ t. t.now) x.text) x.forms x.list x.json z count filter) n
-    (subst (λ (z : Option ℕ). P (option_map (λ t. t.now) x.text) x.forms x.list x.json (option_map (λ t. t.now) x.to) z filter) c
-    (subst (λ (z : Option ℕ). P (option_map (λ t. t.now) x.text) x.forms x.list x.json (option_map (λ t. t.now) x.to) x.company_digits z) v holds))))))
+    subst (λ (z : Option Text). P z forms list json to schemes count filter) t
+    (subst (λ (z : Bool). P (option_map (λ t. t.now) x.text) z list json to schemes count filter) f
+    (subst (λ (z : Bool). P (option_map (λ t. t.now) x.text) x.forms z json to schemes count filter) l
+    (subst (λ (z : Bool). P (option_map (λ t. t.now) x.text) x.forms x.list z to schemes count filter) j
+    (subst (λ (z : Option Text). P (option_map (λ t. t.now) x.text) x.forms x.list x.json z schemes count filter) n
+    (subst (λ (z : Option Text). P (option_map (λ t. t.now) x.text) x.forms x.list x.json (option_map (λ t. t.now) x.to) z count filter) s
+    (subst (λ (z : Option ℕ). P (option_map (λ t. t.now) x.text) x.forms x.list x.json (option_map (λ t. t.now) x.to) (option_map (λ t. t.now) x.schemes) z filter) c
+    (subst (λ (z : Option ℕ). P (option_map (λ t. t.now) x.text) x.forms x.list x.json (option_map (λ t. t.now) x.to) (option_map (λ t. t.now) x.schemes) x.company_digits z) v holds)))))))
 
 -- what was done by the options that were read was done by those that the words give
-pub ran_with : (words : List Text) (x : EpcWords) (text to : Option Text) (forms list json : Bool) (count filter : Option ℕ) (file : Option Text) (r0 r1 : SourceLog) (w0 w1 e0 e1 : SinkLog) (answer : Result ℕ ToolErr)
-    → IsEpc (command_in words) x → AsksEpcWith words text forms list json to count filter file
-    → RanEpcWith (option_map (λ t. t.now) x.text) x.forms x.list x.json (option_map (λ t. t.now) x.to) x.company_digits x.filter r0 r1 w0 w1 e0 e1 answer → RanEpcWith text forms list json to count filter r0 r1 w0 w1 e0 e1 answer
-ran_with words x text to forms list json count filter file r0 r1 w0 w1 e0 e1 answer is asks ran =
-    as_asked (λ t f l j n c v. RanEpcWith t f l j n c v r0 r1 w0 w1 e0 e1 answer) words x text to forms list json count filter file is asks ran
+pub ran_with : (words : List Text) (x : EpcWords) (text to schemes : Option Text) (forms list json : Bool) (count filter : Option ℕ) (file : Option Text) (r0 r1 : SourceLog) (w0 w1 e0 e1 : SinkLog) (answer : Result ℕ ToolErr)
+    → IsEpc (command_in words) x → AsksEpcWith words text forms list json to schemes count filter file
+    → RanEpcWith (option_map (λ t. t.now) x.text) x.forms x.list x.json (option_map (λ t. t.now) x.to) (option_map (λ t. t.now) x.schemes) x.company_digits x.filter r0 r1 w0 w1 e0 e1 answer → RanEpcWith text forms list json to schemes count filter r0 r1 w0 w1 e0 e1 answer
+ran_with words x text to schemes forms list json count filter file r0 r1 w0 w1 e0 e1 answer is asks ran =
+    as_asked (λ t f l j n s c v. RanEpcWith t f l j n s c v r0 r1 w0 w1 e0 e1 answer) words x text to schemes forms list json count filter file is asks ran
 
 plain_answer : (v : Result Verdict ToolErr) (e0 e1 : SinkLog) (answer : Result ℕ ToolErr) → AnswersEpc (some_of v) e0 e1 answer → Answers (verdict_status v) e0 e1 answer
 plain_answer (Ok verdict) e0 e1 answer h = h
 plain_answer (Err error) e0 e1 answer h = h
 
 -- without an option epc does what it does with a text
-pub ran_plain : (text : Text) (r0 r1 : SourceLog) (w0 w1 e0 e1 : SinkLog) (answer : Result ℕ ToolErr) → RanEpcWith (Some text) false false false None None None r0 r1 w0 w1 e0 e1 answer → RanEpc text r0 r1 w0 w1 e0 e1 answer
+pub ran_plain : (text : Text) (r0 r1 : SourceLog) (w0 w1 e0 e1 : SinkLog) (answer : Result ℕ ToolErr) → RanEpcWith (Some text) false false false None None None None r0 r1 w0 w1 e0 e1 answer → RanEpc text r0 r1 w0 w1 e0 e1 answer
 ran_plain text r0 r1 w0 w1 e0 e1 answer (inl none) = inl none
 ran_plain text r0 r1 w0 w1 e0 e1 answer (inr (outcome, (v, unread, prints, is), answers)) = inr (v, unread, prints, plain_answer v e0 e1 answer (subst (λ (o : Result (Option Verdict) ToolErr). AnswersEpc o e0 e1 answer) is answers))

@@ -20,8 +20,8 @@ use Rattle.clap.specs.Walk.{subcommand_met, subcommand_or_other, word_met, to_po
 use Rattle.clap.specs.Walk.{one_of, row_text, plain_word, after_flag, long_or_other, short_or_plain}
 use Rattle.clap.proofs.ValueTestLemmas.{accepts-Accepts}
 use Rattle.llrp_tree.specs.declared.TheConstants.{MAX_LIMIT}
-use Rattle.llrp_commands.specs.Private.Parse.{HasFlagWord, HasLimitWord, HasLimitedWords, HasNumberIn, HasNumberWord, HasStreamWords, HasWord, IsFound, IsParse, MayHaveLongCount, MayHaveNumberIn, MayHaveNumberWord}
-use Rattle.llrp_commands.specs.Calls.Arguments.{least_longest, long_count_rule, longest_rule, stop_app, watch_app, command_in, files_rule, limited_app, show_app, with_files, hex_rule, json_rule, limit_rule, count_rule, flag_rule, host_rule, inventory_app, llrp_app, loop_app, number_rule, port_rule, epc_app, filter_rule, prefix_digits_rule, text_option_rule, text_rule, top_app, all_rule, sim_app, access_app, tag_rule, texts_rule, ask_app, file_rule, fields_app, name_rule, encode_app}
+use Rattle.llrp_commands.specs.Private.Parse.{HasFlagWord, HasLimitWord, HasNumberIn, HasNumberWord, HasStreamWords, HasWord, IsFound, IsParse, MayHaveLongCount, MayHaveNumberIn, MayHaveNumberWord}
+use Rattle.llrp_commands.specs.Calls.Arguments.{own_port_rule, least_longest, long_count_rule, longest_rule, stop_app, watch_app, command_in, files_rule, only_rule, explain_app, show_app, with_files, hex_rule, json_rule, limit_rule, count_rule, flag_rule, host_rule, inventory_app, llrp_app, loop_app, number_rule, port_rule, epc_app, filter_rule, prefix_digits_rule, text_option_rule, text_rule, top_app, all_rule, sim_app, access_app, tag_rule, texts_rule, ask_app, file_rule, fields_app, name_rule, encode_app}
 use Rattle.llrp_commands.proofs.ReadRows.{AllFound, AllUsesPass, HasRead, IsAmong, LevelPasses, both, append_passes, subcommand_there, flag_passes, has_read, help_passes, level_passes, set_passes, uses_pass}
 
 -- ---- a walk without a fault does not stop at help
@@ -244,30 +244,11 @@ the_limit = with_index 1 (filled limit_rule)
 abbrev the_files : Rule
 the_files = with_index 1 (filled files_rule)
 
--- explain, which has two flags, the limit and files
-has_limited_words : (s : Shape) → s.rules ≡ the_hex ∷ the_all ∷ the_limit ∷ the_files ∷ the_help 2 ∷ [] → (words : List Text) → level_fault s [] nothing_held words false [] ≡ [] → HasLimitedWords (rows_after s.rules [] words)
-has_limited_words s e words pass =
-    let c : List Rule = the_hex ∷ the_all ∷ the_limit ∷ the_files ∷ the_help 2 ∷ [] in
-    let uses : AllUsesPass c c = (flag_passes c the_hex refl refl (omega arith), (flag_passes c the_all refl refl (omega arith), (set_passes c the_limit refl refl refl, (append_passes c the_files refl refl refl, (help_passes c (the_help 2) refl, tt))))) in
-    let found : AllFound c c = (refl, (refl, (refl, (refl, (refl, tt))))) in
-    let all_use : AllUsesPass s.rules s.rules = subst (λ (x : List Rule). AllUsesPass x x) (sym e) uses in
-    let all_found : AllFound s.rules s.rules = subst (λ (x : List Rule). AllFound x x) (sym e) found in
-    let hex_among : IsAmong the_hex s.rules = subst (IsAmong the_hex) (sym e) (inl refl) in
-    let hex_by_id : arg_by_id s.rules the_hex.id ≡ Some the_hex = subst (λ (x : List Rule). arg_by_id x the_hex.id ≡ Some the_hex) (sym e) refl in
-    let all_among : IsAmong the_all s.rules = subst (IsAmong the_all) (sym e) (inr (inl refl)) in
-    let all_by_id : arg_by_id s.rules the_all.id ≡ Some the_all = subst (λ (x : List Rule). arg_by_id x the_all.id ≡ Some the_all) (sym e) refl in
-    let limit_among : IsAmong the_limit s.rules = subst (IsAmong the_limit) (sym e) (inr (inr (inl refl))) in
-    let limit_by_id : arg_by_id s.rules the_limit.id ≡ Some the_limit = subst (λ (x : List Rule). arg_by_id x the_limit.id ≡ Some the_limit) (sym e) refl in (
-      flag_word (codes "hex") the_hex (rows_after s.rules [] words) refl refl (default_read s all_use all_found words pass the_hex hex_by_id hex_among (omega arith)),
-      flag_word (codes "all") the_all (rows_after s.rules [] words) refl refl (default_read s all_use all_found words pass the_all all_by_id all_among (omega arith)),
-      limit_there the_limit (rows_after s.rules [] words) refl (default_read s all_use all_found words pass the_limit limit_by_id limit_among (omega arith)),
-    )
-
 -- the rules of a command with three flags, the limit and more
 abbrev stream_rules : List Rule → List Rule
 stream_rules more = the_hex ∷ the_all ∷ the_limit ∷ the_json ∷ more
 
--- show and encode, which have three flags, the limit and more
+-- show, encode and explain, which have three flags, the limit and more
 has_stream_words : (more : List Rule) (s : Shape) → s.rules ≡ stream_rules more → AllUsesPass (stream_rules more) (stream_rules more) → AllFound (stream_rules more) (stream_rules more) → (words : List Text) → level_fault s [] nothing_held words false [] ≡ []
     → HasStreamWords (rows_after s.rules [] words)
 has_stream_words more s e uses found words pass =
@@ -297,12 +278,15 @@ abbrev the_schemes : Rule
 the_schemes = with_index 1 (filled (text_option_rule (codes "schemes")))
 
 abbrev the_segments : Rule
-the_segments = with_index 1 (filled (text_option_rule (codes "segments")))
+the_segments = with_index 1 (filled (flag_rule (codes "segments")))
+
+abbrev the_capture_port : Rule
+the_capture_port = with_index 1 (filled (text_option_rule (codes "port")))
 
 -- show, which has --names and --segments too, and files
 show_gives : Gives (built_sub (with_files show_app).top)
 show_gives name words helpless met pass =
-    let c : List Rule = stream_rules (the_names ∷ the_keys ∷ the_schemes ∷ the_segments ∷ the_files ∷ the_help 2 ∷ []) in
+    let c : List Rule = stream_rules (the_names ∷ the_keys ∷ the_schemes ∷ the_segments ∷ the_capture_port ∷ the_files ∷ the_help 2 ∷ []) in
     let uses : AllUsesPass c c = (
       flag_passes c the_hex refl refl (omega arith),
       (
@@ -315,15 +299,15 @@ show_gives name words helpless met pass =
               set_passes c the_names refl refl refl,
               (
                 flag_passes c the_keys refl refl (omega arith),
-                (set_passes c the_schemes refl refl refl, (set_passes c the_segments refl refl refl, (append_passes c the_files refl refl refl, (help_passes c (the_help 2) refl, tt)))),
+                (set_passes c the_schemes refl refl refl, (flag_passes c the_segments refl refl (omega arith), (set_passes c the_capture_port refl refl refl, (append_passes c the_files refl refl refl, (help_passes c (the_help 2) refl, tt))))),
               ),
             ),
           ),
         ),
       ),
     ) in
-    let found : AllFound c c = (refl, (refl, (refl, (refl, (refl, (refl, (refl, (refl, (refl, (refl, tt)))))))))) in
-    inl (refl, has_stream_words (the_names ∷ the_keys ∷ the_schemes ∷ the_segments ∷ the_files ∷ the_help 2 ∷ []) (built_sub (with_files show_app).top) refl uses found words pass)
+    let found : AllFound c c = (refl, (refl, (refl, (refl, (refl, (refl, (refl, (refl, (refl, (refl, (refl, tt))))))))))) in
+    inl (refl, has_stream_words (the_names ∷ the_keys ∷ the_schemes ∷ the_segments ∷ the_capture_port ∷ the_files ∷ the_help 2 ∷ []) (built_sub (with_files show_app).top) refl uses found words pass)
 
 encode_gives : Gives (built_sub (with_files encode_app).top)
 encode_gives name words helpless met pass =
@@ -349,6 +333,9 @@ the_filter = with_index 2 (filled filter_rule)
 
 abbrev the_prefixes : Rule
 the_prefixes = with_index 2 (filled (text_option_rule (codes "prefixes")))
+
+abbrev the_epc_schemes : Rule
+the_epc_schemes = with_index 2 (filled (text_option_rule (codes "schemes")))
 
 number_in_there : (a : Rule) (rows : List Row) (low high : ℕ) → a.parser ≡ Some (Signed (pos low) (pos high)) → (find (λ (r : Row). bytes_eq r.id a.id) rows ≡ None) ⊎ HasRead a rows → MayHaveNumberIn low high a.id rows
 number_in_there a rows low high is (inl none) = inl (ap (option_and_then row_text) none, ap (option_and_then (λ (r : Row). slice_get r.values 0)) none)
@@ -379,7 +366,7 @@ epc_gives name words helpless met pass =
                   set_passes c the_filter refl refl refl,
                   (
                     set_passes c the_prefixes refl refl refl,
-                    (help_passes c (the_help 2) refl, tt),
+                    (set_passes c the_epc_schemes refl refl refl, (help_passes c (the_help 2) refl, tt)),
                   ),
                 ),
               ),
@@ -388,7 +375,7 @@ epc_gives name words helpless met pass =
         ),
       ),
     ) in
-    let found : AllFound c c = (refl, (refl, (refl, (refl, (refl, (refl, (refl, (refl, (refl, tt))))))))) in
+    let found : AllFound c c = (refl, (refl, (refl, (refl, (refl, (refl, (refl, (refl, (refl, (refl, tt)))))))))) in
     let forms = default_read s uses found words pass (the_epc_flag (codes "forms")) refl (inr (inl refl)) (omega arith) in
     let list = default_read s uses found words pass (the_epc_flag (codes "list")) refl (inr (inr (inl refl))) (omega arith) in
     let json = default_read s uses found words pass (the_epc_flag (codes "json")) refl (inr (inr (inr (inl refl)))) (omega arith) in
@@ -435,12 +422,18 @@ the_answers = with_index 2 (filled (text_option_rule (codes "answers")))
 abbrev the_ready : Rule
 the_ready = with_index 2 (filled (flag_rule (codes "ready")))
 
+abbrev the_keep : Rule
+the_keep = with_index 2 (filled (flag_rule (codes "keep")))
+
+abbrev the_own_port : Rule
+the_own_port = with_index 1 (filled own_port_rule)
+
 sim_gives : Gives (built_sub sim_app.top)
 sim_gives name words helpless met pass =
     let s = built_sub sim_app.top in
     let c = s.rules in
     let uses : AllUsesPass c c = (
-      set_passes c (the_port 1) refl refl refl,
+      set_passes c the_own_port refl refl refl,
       (
         flag_passes c the_all_of_sim refl refl (omega arith),
         (
@@ -451,25 +444,27 @@ sim_gives name words helpless met pass =
               set_passes c the_clock refl refl refl,
               (
                 set_passes c the_answers refl refl refl,
-                (flag_passes c the_ready refl refl (omega arith), (help_passes c (the_help 2) refl, tt)),
+                (flag_passes c the_ready refl refl (omega arith), (flag_passes c the_keep refl refl (omega arith), (help_passes c (the_help 2) refl, tt))),
               ),
             ),
           ),
         ),
       ),
     ) in
-    let found : AllFound c c = (refl, (refl, (refl, (refl, (refl, (refl, (refl, (refl, tt)))))))) in
-    let port = required_read s uses found words pass refl (the_port 1) refl (inl refl) refl in
+    let found : AllFound c c = (refl, (refl, (refl, (refl, (refl, (refl, (refl, (refl, (refl, tt))))))))) in
+    let port = required_read s uses found words pass refl the_own_port refl (inl refl) refl in
     let all = default_read s uses found words pass the_all_of_sim refl (inr (inl refl)) (omega arith) in
     let clients = optional_read s uses found words pass the_clients refl in
     let ready = default_read s uses found words pass the_ready refl (inr (inr (inr (inr (inr (inr (inl refl))))))) (omega arith) in
+    let keep = default_read s uses found words pass the_keep refl (inr (inr (inr (inr (inr (inr (inr (inl refl)))))))) (omega arith) in
     inr (inr (inr (inl (
       refl,
       (
-        number_there (the_port 1) _ 1 refl port,
+        number_there the_own_port _ 0 refl port,
         flag_word (codes "all") the_all_of_sim _ refl refl all,
         may_number the_clients _ 0 refl clients,
         flag_word (codes "ready") the_ready _ refl refl ready,
+        flag_word (codes "keep") the_keep _ refl refl keep,
       ),
     ))))
 
@@ -503,6 +498,13 @@ the_longest n default = with_index n (filled (longest_rule default))
 abbrev the_verbose : ℕ → Rule
 the_verbose n = with_index n (filled (flag_rule (codes "verbose")))
 
+-- the labels of lines of tags, where a number of arguments stands before the options
+abbrev the_tag_keys : ℕ → Rule
+the_tag_keys place = with_index place (filled (flag_rule (codes "keys")))
+
+abbrev the_tag_schemes : ℕ → Rule
+the_tag_schemes place = with_index place (filled (text_option_rule (codes "schemes")))
+
 inventory_gives : Gives (built_sub inventory_app.top)
 inventory_gives name words helpless met pass =
     let s = built_sub inventory_app.top in
@@ -533,7 +535,10 @@ inventory_gives name words helpless met pass =
                             set_passes c (the_longest 3 (codes "65536")) refl refl refl,
                             (
                               flag_passes c (the_verbose 3) refl refl (omega arith),
-                              (help_passes c (the_help 3) refl, tt),
+                              (
+                                flag_passes c (the_tag_keys 3) refl refl (omega arith),
+                                (set_passes c (the_tag_schemes 3) refl refl refl, (help_passes c (the_help 3) refl, tt)),
+                              ),
                             ),
                           ),
                         ),
@@ -547,7 +552,7 @@ inventory_gives name words helpless met pass =
         ),
       ),
     ) in
-    let found : AllFound c c = (refl, (refl, (refl, (refl, (refl, (refl, (refl, (refl, (refl, (refl, (refl, (refl, (refl, (refl, tt)))))))))))))) in
+    let found : AllFound c c = (refl, (refl, (refl, (refl, (refl, (refl, (refl, (refl, (refl, (refl, (refl, (refl, (refl, (refl, (refl, (refl, tt)))))))))))))))) in
     let host = required_read s uses found words pass refl the_host refl (inl refl) refl in
     let port = required_read s uses found words pass refl (the_port 2) refl (inr (inl refl)) refl in
     let every = optional_read s uses found words pass (the_every 3) refl in
@@ -560,6 +565,7 @@ inventory_gives name words helpless met pass =
     let timeout = optional_read s uses found words pass the_timeout refl in
     let longest = default_read s uses found words pass (the_longest 3 (codes "65536")) refl (inr (inr (inr (inr (inr (inr (inr (inr (inr (inr (inr (inl refl)))))))))))) (omega arith) in
     let verbose = default_read s uses found words pass (the_verbose 3) refl (inr (inr (inr (inr (inr (inr (inr (inr (inr (inr (inr (inr (inl refl))))))))))))) (omega arith) in
+    let keys = default_read s uses found words pass (the_tag_keys 3) refl (inr (inr (inr (inr (inr (inr (inr (inr (inr (inr (inr (inr (inr (inl refl)))))))))))))) (omega arith) in
     inr (inr (inr (inr (inl (
       refl,
       word_there the_host _ host,
@@ -576,6 +582,7 @@ inventory_gives name words helpless met pass =
       may_number the_timeout _ 1 refl timeout,
       longest_there (the_longest 3 (codes "65536")) _ refl longest,
       flag_word (codes "verbose") (the_verbose 3) _ refl refl verbose,
+      flag_word (codes "keys") (the_tag_keys 3) _ refl refl keys,
     )))))
 
 loop_gives : Gives (built_sub loop_app.top)
@@ -702,7 +709,13 @@ watch_gives name words helpless met pass =
                               set_passes c the_reader refl refl refl,
                               (
                                 set_passes c the_power refl refl refl,
-                                (flag_passes c the_messages refl refl (omega arith), (set_passes c the_access refl refl refl, (help_passes c (the_help 2) refl, tt))),
+                                (
+                                  flag_passes c the_messages refl refl (omega arith),
+                                  (
+                                    set_passes c the_access refl refl refl,
+                                    (flag_passes c (the_tag_keys 2) refl refl (omega arith), (set_passes c (the_tag_schemes 2) refl refl refl, (help_passes c (the_help 2) refl, tt))),
+                                  ),
+                                ),
                               ),
                             ),
                           ),
@@ -717,7 +730,7 @@ watch_gives name words helpless met pass =
         ),
       ),
     ) in
-    let found : AllFound c c = (refl, (refl, (refl, (refl, (refl, (refl, (refl, (refl, (refl, (refl, (refl, (refl, (refl, (refl, (refl, (refl, (refl, tt))))))))))))))))) in
+    let found : AllFound c c = (refl, (refl, (refl, (refl, (refl, (refl, (refl, (refl, (refl, (refl, (refl, (refl, (refl, (refl, (refl, (refl, (refl, (refl, (refl, tt))))))))))))))))))) in
     let host = required_read s uses found words pass refl the_host refl (inl refl) refl in
     let id = optional_read s uses found words pass the_id refl in
     let every = optional_read s uses found words pass (the_count (codes "every")) refl in
@@ -728,6 +741,7 @@ watch_gives name words helpless met pass =
     let verbose = default_read s uses found words pass (the_verbose 2) refl (inr (inr (inr (inr (inr (inr (inr (inr (inr (inr (inl refl))))))))))) (omega arith) in
     let seconds = optional_read s uses found words pass (the_long_count (codes "for")) refl in
     let messages = default_read s uses found words pass the_messages refl (inr (inr (inr (inr (inr (inr (inr (inr (inr (inr (inr (inr (inr (inr (inl refl))))))))))))))) (omega arith) in
+    let keys = default_read s uses found words pass (the_tag_keys 2) refl (inr (inr (inr (inr (inr (inr (inr (inr (inr (inr (inr (inr (inr (inr (inr (inr (inl refl))))))))))))))))) (omega arith) in
     inr (inr (inr (inr (inr (inr (inl (
       refl,
       word_there the_host _ host,
@@ -741,6 +755,7 @@ watch_gives name words helpless met pass =
         flag_word (codes "verbose") (the_verbose 2) _ refl refl verbose,
         long_count_there (codes "for") _ seconds,
         flag_word (codes "messages") the_messages _ refl refl messages,
+        flag_word (codes "keys") (the_tag_keys 2) _ refl refl keys,
       ),
     )))))))
 
@@ -856,8 +871,18 @@ access_gives name words helpless met pass =
       ),
     )))))))))
 
-explain_gives : Gives (built_sub (with_files (limited_app (codes "explain"))).top)
-explain_gives name words helpless met pass = inr (inr (inl (inr (inr (refl, has_limited_words (built_sub (with_files (limited_app (codes "explain"))).top) refl words pass)))))
+abbrev the_only : Rule
+the_only = with_index 1 (filled only_rule)
+
+explain_gives : Gives (built_sub (with_files explain_app).top)
+explain_gives name words helpless met pass =
+    let s = built_sub (with_files explain_app).top in
+    let more : List Rule = the_only ∷ the_files ∷ the_help 2 ∷ [] in
+    let c : List Rule = stream_rules more in
+    let uses : AllUsesPass c c = (flag_passes c the_hex refl refl (omega arith), (flag_passes c the_all refl refl (omega arith), (set_passes c the_limit refl refl refl, (flag_passes c the_json refl refl (omega arith), (set_passes c the_only refl refl refl, (append_passes c the_files refl refl refl, (help_passes c (the_help 2) refl, tt))))))) in
+    let found : AllFound c c = (refl, (refl, (refl, (refl, (refl, (refl, (refl, tt))))))) in
+    let only = optional_read s uses found words pass the_only refl in
+    inr (inr (inl (inr (inr (refl, (has_stream_words more s refl uses found words pass, number_in_there the_only _ 0 4294967295 refl only))))))
 
 all_give : AllGive (built llrp_app).subs
 unfolding llrp_app

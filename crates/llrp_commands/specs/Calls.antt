@@ -1,5 +1,6 @@
 -- What public contracts say that no promise of README rests on.
 pub mod Command
+pub mod Digits
 pub mod Encode
 pub mod EncodeJson
 pub mod Arguments
@@ -7,4 +8,5 @@ pub mod Epc
 pub mod Explain
 pub mod Fields
 pub mod ShowNames
+pub mod ShowSegments
 pub mod Labelled

@@ -2,7 +2,7 @@
 
 ghost use Rattle.std.specs.Prelude.{◌≡◌, ◌↔◌, IfOk, IfSome, IsTrue, List, Some, [], codes, false, map, true, unwrap_or, ℕ};
 ghost use Rattle.clap.specs.Words.{all_of, found_of, rows_of, subcommand_rows_of};
-ghost use Rattle.llrp_commands.specs.Private.Parse.{HasLimitWord, HasNumberWord, IsFound, IsNetworkParse, IsParse, IsText, HasPlan, MayHaveNumberWord};
+ghost use Rattle.llrp_commands.specs.Private.Parse.{HasLimitWord, HasNumberWord, IsFound, IsNetworkParse, IsParse, IsText, HasPlan, MayHaveId, MayHaveNumberWord};
 ghost use Rattle.llrp_commands.specs.Calls.Arguments.{AsksForInput, FilesAsked, HasNumber, HasOptionalNumber, HasOptionalText, IsBounded, IsNetwork, IsPlan, NetworkAsked, TextsAsked, command_in, parses, reads_files};
 ghost use Rattle.llrp_commands.specs.Private.Arguments.{HasLimit, IsFiles, IsLimit, IsRequest, IsTexts};
 
@@ -19,6 +19,8 @@ mod fields_command;
 mod help;
 mod label_commands;
 mod label_words;
+mod segment_commands;
+mod segment_words;
 mod sim_commands;
 mod sim_words;
 mod watch_commands;
@@ -34,8 +36,10 @@ use clap::error::ErrorKind;
 use commands::llrp_command;
 pub(crate) use epc_words::EpcWords;
 use epc_words::epc_words;
-pub(crate) use label_words::LabelWords;
+pub use label_words::LabelWords;
 use label_words::label_words;
+pub(crate) use segment_words::SegmentWords;
+use segment_words::segment_words;
 pub use sim_words::SimWords;
 use sim_words::sim_words;
 use std::alloc::{AllocError, Global};
@@ -73,7 +77,7 @@ pub enum NetworkCommand<'a> {
     },
     /// An inventory of the reader at this host and port, by this plan. A connection or a read fails
     /// if it gets nothing for this many seconds, and a message has at most this many octets. More may
-    /// be said of the connection.
+    /// be said of the connection, and the lines of tags may have labels.
     Inventory {
         host: &'a str,
         port: u16,
@@ -81,6 +85,7 @@ pub enum NetworkCommand<'a> {
         timeout: Option<u16>,
         limit: u32,
         verbose: bool,
+        labels: LabelWords<'a>,
     },
     /// An inventory of a simulated reader, by a script and this plan.
     Loop {
@@ -112,15 +117,15 @@ pub enum NetworkCommand<'a> {
 #[derive(Drop)]
 pub(crate) enum Request<'a> {
     /// Lists a stream of bytes, or of hexadecimal digits, in the profile or in the whole standard, as a
-    /// listing or as lines of JSON, whose names this word chooses; or the frames of a capture's segments, where the
-    /// reader has this port. A message longer than this many octets is a fault.
+    /// listing or as lines of JSON, whose names this word chooses; or the frames of a capture's segments.
+    /// A message longer than this many octets is a fault.
     Show {
         hex: bool,
         all: bool,
         json: bool,
         names: Option<&'a str>,
         labels: LabelWords<'a>,
-        segments: Option<&'a str>,
+        capture: SegmentWords<'a>,
         limit: u32,
     },
     /// Writes the bytes of a listing, or of lines of JSON, in the profile or in the whole standard, or
@@ -141,10 +146,13 @@ pub(crate) enum Request<'a> {
         name: Option<&'a str>,
     },
     /// Explains a stream of bytes, or of hexadecimal digits, field by field, in the profile or in the whole
-    /// standard. A message longer than this many octets is a fault.
+    /// standard, as text or as lines of JSON; all of its frames, or those with this id. A message longer than this many octets
+    /// is a fault.
     Explain {
         hex: bool,
         all: bool,
+        json: bool,
+        only: Option<u32>,
         limit: u32,
     },
     /// A command that the program runs itself.
@@ -172,6 +180,15 @@ fn limit(inner: &ArgMatches<'_>) -> u32
     ensures limit { IsLimit result }
 {
     inner.get_one::<u32>("limit").unwrap()
+}
+
+/// The id of the option --only, if it is given; the parse has checked it.
+fn only_id(inner: &ArgMatches<'_>) -> Option<u32>
+    requires { MayHaveId (codes "only") (rows_of (found_of inner.now)) }
+    ensures { (name : List ℕ) → HasOptionalNumber (codes "only")
+        (Some (name, rows_of (found_of inner.now))) result }
+{
+    inner.get_one::<u32>("only")
 }
 
 /// The number of an option, if it is given; the parse has checked it.
@@ -254,6 +271,7 @@ fn network_named<'a>(name: &str, inner: &ArgMatches<'a>) -> NetworkCommand<'a>
         timeout: optional_number(inner, "timeout"),
         limit: longest(inner),
         verbose: inner.get_flag("verbose"),
+        labels: label_words(inner),
     }
 }
 
@@ -273,7 +291,7 @@ fn request_named<'a>(name: &str, inner: &ArgMatches<'a>) -> Request<'a>
             json: inner.get_flag("json"),
             names: optional_text(inner, "names"),
             labels: label_words(inner),
-            segments: optional_text(inner, "segments"),
+            capture: segment_words(inner),
             limit: limit(inner),
         }
     } else if name == "encode" {
@@ -293,6 +311,8 @@ fn request_named<'a>(name: &str, inner: &ArgMatches<'a>) -> Request<'a>
         Request::Explain {
             hex: inner.get_flag("hex"),
             all: inner.get_flag("all"),
+            json: inner.get_flag("json"),
+            only: only_id(inner),
             limit: limit(inner),
         }
     } else {

@@ -16,12 +16,13 @@ ghost use Rattle.llrp_commands.specs.Calls.Explain.{ExplainsIfAsked};
 ghost use Rattle.llrp_commands.specs.Calls.Fields.{FieldsIfAsked};
 ghost use Rattle.llrp_commands.specs.Calls.Labelled.{LabelsEncodedIfAsked, LabelsShownIfAsked};
 ghost use Rattle.llrp_commands.specs.Calls.ShowNames.{NamesIfAsked};
+ghost use Rattle.llrp_commands.specs.Calls.ShowSegments.{SegmentsIfAsked};
 ghost use Rattle.llrp_stream.specs.Calls.Device.{CanWrite};
 
 use crate::arguments::{Request, request_of};
 use crate::encode_json::{answer_lines, encode_json};
 use crate::epc::{answer_epc, epc, mistake_of};
-use crate::explain::explain;
+use crate::explain::{explain, form_of};
 use crate::fields::{answer_fields, fields};
 use crate::labelled::{encode_with_labels, goes_without_labels, show_with_labels};
 use crate::show_names::show_by_names;
@@ -383,11 +384,11 @@ fn encode_in_form<R: Source, W: Sink, E: Sink>(
     }
 }
 
-/// Runs the command that the words after the program's name ask for, and returns its exit status: 0
-/// if all is well, 1 if the input has a fault, 2 if the words ask for no command, and 3 if a device
-/// failed or memory ran out. An error is written to `e` as a line. For a command that the program
-/// runs itself, and for `epc` with a file, the status is 2, and nothing is read or written. Files that the words name are not
-/// opened: `r` stands for one of them. The only errors are `Memory`, and `Write` if writing to `e` failed.
+/// Runs the command that the words after the program's name ask for, and returns its exit status: 0 if all is
+/// well, 1 if the input has a fault, 2 if the words ask for no command, and 3 if a device failed or memory
+/// ran out. An error is written to `e` as a line. For a command that the program runs itself, and for `epc`
+/// with a file, the status is 2, and nothing is read or written. Files that the words name are not opened:
+/// `r` stands for one of them. The only errors are `Memory`, and `Write` if writing to `e` failed.
 pub fn run_command<S: AsStr, R: Source, W: Sink, E: Sink>(
     alloc: Global,
     words: &[S],
@@ -407,6 +408,10 @@ pub fn run_command<S: AsStr, R: Source, W: Sink, E: Sink>(
 
     // With --names its lines have the names that the word says.
     ensures names { NamesIfAsked (map S.text words.entry.now) (R.log r.old) (R.log r.new)
+        (W.log w.old) (W.log w.new) (E.log e.old) (E.log e.new) result }
+
+    // With --segments it lists the frames of a capture.
+    ensures segments { SegmentsIfAsked (map S.text words.entry.now) (R.log r.old) (R.log r.new)
         (W.log w.old) (W.log w.new) (E.log e.old) (E.log e.new) result }
 
     // With --keys or --schemes the listing has labels.
@@ -431,7 +436,7 @@ pub fn run_command<S: AsStr, R: Source, W: Sink, E: Sink>(
     ensures fields { FieldsIfAsked (map S.text words.entry.now) (R.log r.old) (R.log r.new)
         (W.log w.old) (W.log w.new) (E.log e.old) (E.log e.new) result }
 
-    // If they ask for explain, it explains each frame.
+    // If they ask for explain, it explains each frame, or with --only those with one id.
     ensures explain { ExplainsIfAsked (map S.text words.entry.now) (R.log r.old) (R.log r.new)
         (W.log w.old) (W.log w.new) (E.log e.old) (E.log e.new) result }
 
@@ -451,16 +456,17 @@ pub fn run_command<S: AsStr, R: Source, W: Sink, E: Sink>(
             json,
             names,
             labels,
-            segments,
+            capture,
             limit,
         } => {
             if labels.asks() {
-                let other = goes_without_labels(json, names, segments);
+                let other = goes_without_labels(json, names, capture);
                 return show_with_labels(alloc, other, labels, hex, set_of(all), limit, r, w, e);
             }
-            if let Some(port) = segments {
-                let plain = !hex && names.is_none();
-                return show_by_segments(alloc, plain, json, port, set_of(all), limit, r, w, e);
+            if capture.asks() {
+                let plain = capture.segments && !hex && names.is_none();
+                let word = capture.port;
+                return show_by_segments(alloc, plain, json, word, set_of(all), limit, r, w, e);
             }
             match names {
                 Some(word) => show_by_names(alloc, json, word, hex, set_of(all), limit, r, w, e),
@@ -491,11 +497,18 @@ pub fn run_command<S: AsStr, R: Source, W: Sink, E: Sink>(
             }
         },
         Request::Fields { all, name } => {
-            let outcome = fields(alloc, set_of(all), name, w);
-            answer_fields(outcome, e)
+            let set = set_of(all);
+            let outcome = fields(alloc, set, name, w);
+            answer_fields(alloc, set, name.unwrap_or(""), outcome, e)
         }
-        Request::Explain { hex, all, limit } => {
-            let outcome = explain(alloc, hex, set_of(all), limit, r, w);
+        Request::Explain {
+            hex,
+            all,
+            json,
+            only,
+            limit,
+        } => {
+            let outcome = explain(alloc, form_of(json), only, hex, set_of(all), limit, r, w);
             answer(verdict_status(outcome), e)
         }
         Request::Network(_) => Ok(USAGE),

@@ -57,7 +57,7 @@ fn write_where<E: Sink>(e: &mut E, path: &[u8], reason: Reason) -> Result<(), To
     write_reason(e, reason)
 }
 
-/// Writes the line of a line of JSON that is refused.
+/// Writes the error line of a line of JSON that is refused.
 fn write_line_refusal<E: Sink>(e: &mut E, line: &RefusedLine) -> Result<(), ToolErr>
     requires { CanWrite (E.log e.old) }
     ensures { Writes (json_refusal_line line.now) (E.log e.old) (E.log e.new) result }
@@ -66,7 +66,8 @@ fn write_line_refusal<E: Sink>(e: &mut E, line: &RefusedLine) -> Result<(), Tool
     write_where(e, line.path.as_slice(), line.reason)
 }
 
-/// The exit status of `encode --json` that ended like this, after its error, if it has one, was written as a line.
+/// The exit status of `encode --json` that ended like this, after its error, if it has one, was written as a
+/// line.
 pub(crate) fn answer_lines<E: Sink>(outcome: Result<(), LinesErr>, e: &mut E) -> Result<u8, ToolErr>
     requires { CanWrite (E.log e.old) }
     ensures answers { AnswersLines outcome (E.log e.old) (E.log e.new) result }

@@ -25,8 +25,8 @@ const REFUSED: u8 = 1;
 
 const UNREAD: u8 = 3;
 
-/// The path of the file of company prefixes that the words after the program's name ask for with `epc`, if they ask for one. The only
-/// error is that memory ran out.
+/// The path of the file of company prefixes that the words after the program's name ask for with `epc`, if
+/// they ask for one. The only error is that memory ran out.
 pub fn prefixes_file<'a, S: AsStr>(
     alloc: Global,
     words: &'a [S],
@@ -50,8 +50,8 @@ fn write_table_line<E: Sink>(e: &mut E, line: u64, reason: &[u8]) -> Result<(), 
     write_parts(e, &[b"llrp: prefixes line ", number, reason])
 }
 
-/// Writes why there is no table of company prefixes as a line, and returns the exit status: 1 if a line of the file is refused, 3 if it
-/// cannot be read or memory ran out.
+/// Writes why there is no table of company prefixes as a line, and returns the exit status: 1 if a line of
+/// the file is refused, 3 if it cannot be read or memory ran out.
 pub fn refuse_table<E: Sink>(no_table: TableErr, e: &mut E) -> Result<u8, ToolErr>
     requires { CanWrite (E.log e.old) }
     ensures { RefusesTable no_table (E.log e.old) (E.log e.new) result }
@@ -85,8 +85,8 @@ fn epc_by<R: Source, W: Sink>(
     requires source { IsFreshSource (R.log r.old) }
     requires sink { IsFreshSink (W.log w.old) }
     ensures { DoesEpcBy (option_map (λ t. t.now) words.entry.text) words.entry.forms words.entry.list words.entry.json
-        (option_map (λ t. t.now) words.entry.to) words.entry.company_digits words.entry.filter
-        table.now (R.log r.old) (R.log r.new) (W.log w.old) (W.log w.new) result }
+        (option_map (λ t. t.now) words.entry.to) (option_map (λ t. t.now) words.entry.schemes)
+        words.entry.company_digits words.entry.filter table.now (R.log r.old) (R.log r.new) (W.log w.old) (W.log w.new) result }
 {
     match words.company_digits {
         Some(_) => Ok(None),
@@ -94,8 +94,9 @@ fn epc_by<R: Source, W: Sink>(
     }
 }
 
-/// Runs `epc` with a file of company prefixes, which is read from `p` to its end, and returns its exit status as [`run_command`] does:
-/// 1 too if a line of the file is refused, and 3 if it cannot be read. For other words the status is 2, and nothing is read or written.
+/// Runs `epc` with a file of company prefixes, which is read from `p` to its end, and returns its exit status
+/// as [`run_command`] does: 1 too if a line of the file is refused, and 3 if it cannot be read. For other
+/// words the status is 2, and nothing is read or written.
 pub fn run_epc_by<S: AsStr, P: Source, R: Source, W: Sink, E: Sink>(
     alloc: Global,
     words: &[S],

@@ -1,16 +1,16 @@
 //! The command `fields`.
 
-ghost use Rattle.std.specs.Prelude.{◌≡◌, Ok, Err, false, option_map, true};
-ghost use Rattle.llrp_commands.specs.Calls.Fields.{AnswersFields, DoesFields};
+ghost use Rattle.std.specs.Prelude.{◌≡◌, IfOk, Ok, Err, false, option_map, true};
+ghost use Rattle.llrp_commands.specs.Calls.Fields.{AnswersFields, DoesFields, no_name};
 ghost use Rattle.llrp_stream.specs.Device.{IsFreshSink};
 ghost use Rattle.llrp_stream.specs.Calls.Device.{CanWrite};
 
 use crate::command::answer;
-use llrp_explain::{line_of, table};
+use llrp_explain::{line_of, nearest_names, table};
 use llrp_listing::{ToolErr, write_all};
 use llrp_schema::KindSet;
 use llrp_stream::Sink;
-use std::alloc::Global;
+use std::alloc::{AllocError, Global};
 
 /// The exit status where no kind has the name.
 const NO_KIND: u8 = 1;
@@ -34,18 +34,34 @@ pub(crate) fn fields<W: Sink>(
     Ok(!text.is_empty())
 }
 
-/// The exit status of `fields`, after the line of its error, if it has one, was written.
+/// The line that says that no kind has a name, and which names are nearest.
+fn no_name_line(alloc: Global, set: KindSet, name: &str) -> Result<Vec<u8>, AllocError>
+    ensures { IfOk result (λ line. line.items ≡ no_name set name.now) }
+{
+    let names = nearest_names(alloc, set, name.as_bytes())?;
+    let mut line = Vec::new(alloc);
+    line.extend_from_slice(b"llrp: name; nearest: ")?;
+    line.extend_from_slice(names.as_slice())?;
+    line.push(b'\n')?;
+    Ok(line)
+}
+
+/// The exit status of `fields` with this name, after the line of its error, if it has one, was written.
 pub(crate) fn answer_fields<E: Sink>(
+    alloc: Global,
+    set: KindSet,
+    name: &str,
     outcome: Result<bool, ToolErr>,
     e: &mut E,
 ) -> Result<u8, ToolErr>
     requires { CanWrite (E.log e.old) }
-    ensures { AnswersFields outcome (E.log e.old) (E.log e.new) result }
+    ensures { AnswersFields set name.now outcome (E.log e.old) (E.log e.new) result }
 {
     match outcome {
         Ok(true) => Ok(0),
         Ok(false) => {
-            write_all(e, b"llrp: name\n")?;
+            let line = no_name_line(alloc, set, name)?;
+            write_all(e, line.as_slice())?;
             Ok(NO_KIND)
         }
         Err(error) => answer(Err(error), e),

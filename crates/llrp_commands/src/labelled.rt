@@ -11,7 +11,7 @@ ghost use Rattle.llrp_commands.specs.Calls.Command.{FailsAsTold};
 ghost use Rattle.llrp_commands.specs.Calls.Labelled.{AnswersLabels, EncodesLabelled, LabelsEncodedTo, MeansLabels, ShownTo, label_line};
 ghost use Rattle.llrp_commands.specs.Calls.ShowNames.{AnswersMistake};
 
-use crate::arguments::LabelWords;
+use crate::arguments::{LabelWords, SegmentWords};
 use crate::command::{USAGE, answer, encode, verdict_status, write_parts};
 use itoa::Buffer;
 use llrp_labels::{LabelErr, LabelFault, Labels, read_plain, run_show_labelled};
@@ -22,16 +22,21 @@ use std::alloc::Global;
 
 /// What is written where --keys or --schemes does not go with the other words.
 const MISTAKE: &[u8] = b"\
-error: --keys and --schemes go with a listing, without --json, --names and --segments, and --schemes takes all
+error: --keys and --schemes go with a listing, without --json, --names, --segments and --port, and --schemes takes all
 
 For more information, try '--help'.
 ";
 
 /// Whether one of these options of `show` was given, which go with no labels.
-pub(crate) fn goes_without_labels(json: bool, names: Option<&str>, segments: Option<&str>) -> bool
-    ensures { result ≡ (json || (is_some names.entry || is_some segments.entry)) }
+pub(crate) fn goes_without_labels(
+    json: bool,
+    names: Option<&str>,
+    capture: SegmentWords<'_>,
+) -> bool
+    ensures { result ≡ (json || (is_some names.entry
+        || (capture.entry.segments || is_some capture.entry.port))) }
 {
-    json || names.is_some() || segments.is_some()
+    json || names.is_some() || capture.asks()
 }
 
 /// The labels that the words ask for, if no option beside them goes with none.
@@ -66,7 +71,8 @@ fn refuse_words<E: Sink>(e: &mut E) -> Result<u8, ToolErr>
     Ok(USAGE)
 }
 
-/// The command `show` with these labels, and its exit status; `other` says whether an option was given that goes with no labels.
+/// The command `show` with these labels, and its exit status; `other` says whether an option was given that
+/// goes with no labels.
 pub(crate) fn show_with_labels<R: Source, W: Sink, E: Sink>(
     alloc: Global,
     other: bool,
@@ -123,7 +129,7 @@ fn encode_labelled<R: Source, W: Sink>(
     }
 }
 
-/// Writes the line of a line with labels that is refused.
+/// Writes the error line of a line with labels that is refused.
 fn write_fault<E: Sink>(e: &mut E, line: u64, fault: LabelFault) -> Result<(), ToolErr>
     requires { CanWrite (E.log e.old) }
     ensures { Writes (label_line line fault) (E.log e.old) (E.log e.new) result }
@@ -160,7 +166,8 @@ fn answer_labels<E: Sink>(outcome: Result<(), LabelErr>, e: &mut E) -> Result<u8
     }
 }
 
-/// The command `encode` with these labels, and its exit status; `other` says whether an option was given that goes with no labels.
+/// The command `encode` with these labels, and its exit status; `other` says whether an option was given that
+/// goes with no labels.
 pub(crate) fn encode_with_labels<R: Source, W: Sink, E: Sink>(
     alloc: Global,
     other: bool,

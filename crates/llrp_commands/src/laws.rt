@@ -23,7 +23,7 @@ pub fn fields_has_flag()
 {}
 
 /// If the words are parsed and name explain, they ask for it with --hex or without, with --all or
-/// without, and with one limit.
+/// without, with --json or without, with one id or none, and with one limit.
 pub fn explain_has_flags()
     ensures { (words : List (List ℕ)) → AsksExplainIfNamed words }
 {}

@@ -1,6 +1,6 @@
-//! The commands of `llrp`: what its words ask for, and each command over bytes and texts, with its exit status and its error's
-//! line. Sockets, files and the process are not part of it, and neither are both ends of a connection, so that this crate is proved
-//! beside theirs; `llrp_tool` exports both.
+//! The commands of `llrp`: what its words ask for, and each command over bytes and texts, with its exit
+//! status and its error's line. Sockets, files and the process are not part of it, and neither are both ends
+//! of a connection, so that this crate is proved beside theirs; `llrp_tool` exports both.
 //!
 //! Use it to put the commands into a program of your own. [`run_command`] does what the words ask for;
 //! [`network_command`] returns the command over sockets that they ask for, as a [`NetworkCommand`].
@@ -13,6 +13,7 @@
 
 mod arguments;
 mod command;
+mod digits;
 mod encode_json;
 mod epc;
 mod epc_table;
@@ -24,8 +25,8 @@ mod show_names;
 mod show_segments;
 
 pub use arguments::{
-    AccessWords, AskWords, NetworkCommand, PlanWords, SimWords, StopWords, WatchWords, files_asked,
-    network_command, reads_input, texts_asked,
+    AccessWords, AskWords, LabelWords, NetworkCommand, PlanWords, SimWords, StopWords, WatchWords,
+    files_asked, network_command, reads_input, texts_asked,
 };
 pub use command::{LIMIT, USAGE, answer, run_command, write_refusal};
 pub use epc_table::{prefixes_file, refuse_table, run_epc_by};

@@ -1,10 +1,11 @@
 //! The command `show` with --segments.
 
-ghost use Rattle.std.specs.Prelude.{◌≤◌, IfErr};
+ghost use Rattle.std.specs.Prelude.{◌≤◌, ◌≡◌, ◌≢◌, MatchOption, IfErr, IfOk, option_map, ℕ};
 ghost use Rattle.llrp_tree.specs.declared.TheConstants.{MAX_LIMIT};
 ghost use Rattle.llrp_stream.specs.Calls.Device.{CanWrite};
 ghost use Rattle.llrp_stream.specs.Device.{IsFreshSink, IsFreshSource};
 ghost use Rattle.llrp_commands.specs.Calls.Command.{FailsAsTold};
+ghost use Rattle.llrp_commands.specs.Calls.ShowSegments.{IsPort, MeansPort, SegmentsTo};
 
 use crate::command::{USAGE, answer, verdict_status, write_parts};
 use itoa::Buffer;
@@ -14,22 +15,41 @@ use llrp_sides::{Form, LineFault, ShowErr, show_segments};
 use llrp_stream::{Sink, Source};
 use std::alloc::Global;
 
-/// What is written where --segments goes with --hex or --names, or has no port.
+/// What is written where --segments and --port do not go with the other words.
 const MISTAKE: &[u8] = b"\
-error: show takes --segments with a port from 1 to 65535, and neither --hex nor --names beside it
+error: show takes --segments without --hex and --names, and beside it --port from 1 to 65535
 
 For more information, try '--help'.
 ";
 
-/// The port that a word says.
-fn port_of(plain: bool, word: &str) -> Option<u16> {
+/// The port that is registered for LLRP.
+const OWN_PORT: u16 = 5084;
+
+/// The port that a word of --port spells.
+fn port_in(word: &str) -> Option<u16>
+    ensures { MatchOption result ((port : ℕ) → IsPort word.now port → ⊥) (IsPort word.now) }
+{
     match word.parse::<u16>() {
-        Ok(port) if plain && port > 0 => Some(port),
+        Ok(port) if port > 0 => Some(port),
         _ => None,
     }
 }
 
-/// Writes the line of an error in a line of segments.
+/// The reader's port. `plain` says that --segments is there, and neither --hex nor --names.
+fn port_meant(plain: bool, word: Option<&str>) -> Option<u16>
+    ensures { MatchOption result ((port : ℕ) → MeansPort plain (option_map (λ t. t.now) word.entry) port → ⊥)
+        (MeansPort plain (option_map (λ t. t.now) word.entry)) }
+{
+    if !plain {
+        return None;
+    }
+    match word {
+        Some(word) => port_in(word),
+        None => Some(OWN_PORT),
+    }
+}
+
+/// Writes the error line of a line of segments.
 fn write_fault<E: Sink>(e: &mut E, line: u64, fault: LineFault) -> Result<(), ToolErr>
     requires { CanWrite (E.log e.old) }
     ensures { IfErr result (λ error. FailsAsTold (E.log e.old) (E.log e.new) error) }
@@ -48,12 +68,28 @@ fn write_fault<E: Sink>(e: &mut E, line: u64, fault: LineFault) -> Result<(), To
     )
 }
 
-/// The command `show` with this word of --segments, and its exit status. `plain` says that neither --hex nor --names is beside it.
+/// Answers a capture that was not listed to its end, by a status that is not 0.
+fn answer_stopped<E: Sink>(error: ShowErr, e: &mut E) -> Result<u8, ToolErr>
+    requires { CanWrite (E.log e.old) }
+    ensures status { IfOk result (λ status. status ≢ 0) }
+    ensures errors { IfErr result (λ error. FailsAsTold (E.log e.old) (E.log e.new) error) }
+{
+    match error {
+        ShowErr::Tool(error) => answer(Err(error), e),
+        ShowErr::Line { line, fault } => {
+            write_fault(e, line, fault)?;
+            Ok(1)
+        }
+    }
+}
+
+/// The command `show` with --segments and this word of --port, and its exit status. `plain` says that --segments is there,
+/// and neither --hex nor --names.
 pub(crate) fn show_by_segments<R: Source, W: Sink, E: Sink>(
     alloc: Global,
     plain: bool,
     json: bool,
-    word: &str,
+    word: Option<&str>,
     set: KindSet,
     limit: u32,
     r: &mut R,
@@ -65,19 +101,17 @@ pub(crate) fn show_by_segments<R: Source, W: Sink, E: Sink>(
     requires source { IsFreshSource (R.log r.old) }
     requires sink { IsFreshSink (W.log w.old) }
     requires errors { CanWrite (E.log e.old) }
+    ensures shown { SegmentsTo plain json (option_map (λ t. t.now) word.entry) set limit
+        (R.log r.old) (R.log r.new) (W.log w.old) (W.log w.new) (E.log e.old) (E.log e.new) result }
     ensures errors { IfErr result (λ error. FailsAsTold (E.log e.old) (E.log e.new) error) }
 {
-    let Some(port) = port_of(plain, word) else {
+    let Some(port) = port_meant(plain, word) else {
         write_all(e, MISTAKE)?;
         return Ok(USAGE);
     };
     let form = Form { json, set, limit };
     match show_segments(alloc, form, port, r, w) {
         Ok(verdict) => answer(verdict_status(Ok(verdict)), e),
-        Err(ShowErr::Tool(error)) => answer(Err(error), e),
-        Err(ShowErr::Line { line, fault }) => {
-            write_fault(e, line, fault)?;
-            Ok(1)
-        }
+        Err(error) => answer_stopped(error, e),
     }
 }

@@ -20,6 +20,7 @@ use Rattle.llrp_session.specs.declared.reader.events.StepFault.{StepFault}
 use Rattle.llrp_session.specs.declared.reader.events.StepFault.TheVariants as faults
 use Rattle.llrp_listing.specs.Calls.Fault.{error_by}
 use Rattle.llrp_listing.specs.declared.outcome.ToolErr.{ToolErr}
+use Rattle.llrp_listing.specs.declared.outcome.ToolErr.TheVariants.{Broken, Memory}
 use Rattle.llrp_endpoints.specs.Serving.{said, turn_or_none}
 use Rattle.llrp_live.specs.declared.reader.LiveReader.{LiveReader}
 use Rattle.llrp_live.specs.Calls.Doings.{Dated, agreed, doing, closes, comes_in, next_version, once, course, taken_at}
@@ -116,8 +117,14 @@ pub phased : (now : ℕ) (piece : List ℕ) (b : Begun) (before : List Dated) (b
     → new.core ≡ mid.core → new.decoder ≡ mid.decoder → new.phase ≡ phase_after answer → new.taken ≡ mid.taken → new.answers ≡ mid.answers → new.version ≡ mid.version → Goes now piece b before bytes items old new out0 out1 answer
 phased now piece b before bytes items old mid new out0 out1 (Ok false) g core same phase taken answers version =
     record { more = g.more; none = g.none; said = g.said; lives = record { rest = g.lives.rest; are = g.lives.are; reader_is = core ∙ g.lives.reader_is; decoder = rw same g.lives.decoder; limit = rw same g.lives.limit; phase = phase; taken = taken ∙ g.lives.taken; answers = ap (λ (a : Answers). a.pairs.items) answers ∙ g.lives.answers; version = version ∙ g.lives.version } }
-phased now piece b before bytes items old mid new out0 out1 (Ok true) g core same phase taken answers version = g
-phased now piece b before bytes items old mid new out0 out1 (Err error) g core same phase taken answers version = g
+phased now piece b before bytes items old mid new out0 out1 (Ok true) g core same phase taken answers version =
+    record { front = g.front; later = g.later; more = g.more; last = g.last; parts = g.parts; none = g.none; closing = g.closing; are = g.are; said = g.said; reader_is = core ∙ g.reader_is }
+phased now piece b before bytes items old mid new out0 out1 (Err error) g core same phase taken answers version = failed_with error g
+  where
+    failed_with : (error : ToolErr) → Fails now piece b before bytes items old mid out0 out1 error → Fails now piece b before bytes items old new out0 out1 error
+    failed_with Broken g = record { more = g.more; rest = g.rest; none = g.none; are = g.are; breaks = g.breaks; said = g.said; reader_is = core ∙ g.reader_is }
+    failed_with Memory g = record { front = g.front; later = g.later; more = g.more; rest = g.rest; parts = g.parts; are = g.are; said = g.said; reader_is = core ∙ g.reader_is }
+    failed_with _ g = absurd g
 
 -- ---- a piece in a loop
 
@@ -157,14 +164,14 @@ module _ (now : ℕ) (piece rest : List ℕ) (b : Begun) (before : List Dated) (
 
   -- ---- the decoder fails
 
-  by_error : (d : DecoderState) (error : FeedErr) → FeedsIn Standard s.decoder f.lives.rest rest d (Err error) → Fails now piece b bytes items old out0 out1 (error_by error)
-  by_error d decoder.Broken h = record { more = f.more; rest = f.lives.rest ++ rest; none = f.none; are = grown; breaks = h.0; said = f.said }
-  by_error d decoder.Memory h = record { front = piece; later = []; more = f.more; rest = f.lives.rest ++ rest; parts = sym (append-nil piece); are = grown; said = f.said }
-  by_error d decoder.Dead h = absurd h
+  by_error : (new : LiveReader) (d : DecoderState) (error : FeedErr) → new.core ≡ s.core → FeedsIn Standard s.decoder f.lives.rest rest d (Err error) → Fails now piece b before bytes items old new out0 out1 (error_by error)
+  by_error new d decoder.Broken core h = record { more = f.more; rest = f.lives.rest ++ rest; none = f.none; are = grown; breaks = h.0; said = f.said; reader_is = core ∙ f.lives.reader_is }
+  by_error new d decoder.Memory core h = record { front = piece; later = []; more = f.more; rest = f.lives.rest ++ rest; parts = sym (append-nil piece); are = grown; said = f.said; reader_is = core ∙ f.lives.reader_is }
+  by_error new d decoder.Dead core h = absurd h
 
-  pub failed : (d : DecoderState) (error : FeedErr) (answer : ToolErr) → ((p : KindSet) (front : List ℕ) → StandsIn p s.decoder front → FeedsIn p s.decoder front rest d (Err error)) → answer ≡ error_by error
-      → Fails now piece b bytes items old out0 out1 answer
-  failed d error answer feeds is = rw is (by_error d error (feeds Standard f.lives.rest f.lives.decoder))
+  pub failed : (new : LiveReader) (d : DecoderState) (error : FeedErr) (answer : ToolErr) → new.core ≡ s.core → ((p : KindSet) (front : List ℕ) → StandsIn p s.decoder front → FeedsIn p s.decoder front rest d (Err error)) → answer ≡ error_by error
+      → Fails now piece b before bytes items old new out0 out1 answer
+  failed new d error answer core feeds is = rw is (by_error new d error core (feeds Standard f.lives.rest f.lives.decoder))
 
   -- ---- no frame ends
 
@@ -208,8 +215,8 @@ module _ (now : ℕ) (piece rest : List ℕ) (b : Begun) (before : List Dated) (
     one_at : taken_after now b items (f.more ++ item ∷ []) ≡ taken_after now b items f.more ++ (record { now = now; doing = doing b.answers in_use item } ∷ [])
     one_at = at-append now b.answers (agreed First items) f.more (item ∷ [])
 
-    pub out_of_memory : (new : LiveReader) (out2 : List MessageTree) → out2 ≡ out1 → RanOut now piece b bytes items old out0 out2
-    out_of_memory new out2 same = record { front = piece; later = []; more = f.more; rest = f.lives.rest ++ rest; parts = sym (append-nil piece); are = grown; said = same ∙ f.said }
+    pub out_of_memory : (new : LiveReader) (out2 : List MessageTree) → new.core ≡ s.core → out2 ≡ out1 → RanOut now piece b before bytes items old new out0 out2
+    out_of_memory new out2 core same = record { front = piece; later = []; more = f.more; rest = f.lives.rest ++ rest; parts = sym (append-nil piece); are = grown; said = same ∙ f.said; reader_is = core ∙ f.lives.reader_is }
 
     module _ (new : LiveReader) (out2 : List MessageTree) (does_there : DoesItem now s.answers.pairs.items s.version item s.core new.core out1 out2) where
       same_version : s.version ≡ in_use
@@ -224,8 +231,12 @@ module _ (now : ℕ) (piece rest : List ℕ) (b : Begun) (before : List Dated) (
       all_said : out2 ≡ out0 ++ (course old.core (taken_after now b items (f.more ++ item ∷ []))).said
       all_said = said_more old.core (taken_after now b items f.more) at s.core out0 out1 out2 f.core_is f.said does.said ∙ ap (λ (ds : List Dated). out0 ++ (course old.core ds).said) (sym one_at)
 
-      pub closed : closes item ≡ true → HasClosed now piece b bytes items old out0 out2
-      closed c = record { front = front; later = drop fed.used rest; more = f.more; last = item; parts = parts; none = f.none; closing = c; are = are; said = all_said }
+      reader_then : new.core ≡ (course b.reader (before ++ taken_after now b items (f.more ++ item ∷ []))).reader
+      reader_then = one_more b.reader (before ++ taken_after now b items f.more) at s.core new.core f.lives.reader_is does.reader
+          ∙ ap (λ (ds : List Dated). (course b.reader ds).reader) (append_assoc before (taken_after now b items f.more) (at ∷ []) ∙ ap (λ (ds : List Dated). before ++ ds) (sym one_at))
+
+      pub closed : closes item ≡ true → HasClosed now piece b before bytes items old new out0 out2
+      closed c = record { front = front; later = drop fed.used rest; more = f.more; last = item; parts = parts; none = f.none; closing = c; are = are; said = all_said; reader_is = reader_then }
 
       pub so_far_more : (rest2 : List ℕ) → closes item ≡ false → new.decoder ≡ d → d.limit ≡ s.decoder.limit → new.phase ≡ s.phase → rest2 ≡ drop fed.used rest
           → new.taken ≡ count_more s.taken (comes_in (doing s.answers.pairs.items s.version item)) → new.answers ≡ s.answers → new.version ≡ next_version s.version item → SoFar now piece rest2 b before bytes items old new out0 out2
@@ -239,8 +250,7 @@ module _ (now : ℕ) (piece rest : List ℕ) (b : Begun) (before : List Dated) (
         lives = record {
           rest = [];
           are = are;
-          reader_is = one_more b.reader (before ++ taken_after now b items f.more) at s.core new.core f.lives.reader_is does.reader
-              ∙ ap (λ (ds : List Dated). (course b.reader ds).reader) (append_assoc before (taken_after now b items f.more) (at ∷ []) ∙ ap (λ (ds : List Dated). before ++ ds) (sym one_at));
+          reader_is = reader_then;
           decoder = rw same takes.3;
           limit = rw same (limit ∙ f.lives.limit);
           phase = phase ∙ f.lives.phase;

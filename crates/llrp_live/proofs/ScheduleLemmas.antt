@@ -7,10 +7,10 @@ use Rattle.std.proofs.Math.ListN.{set}
 use Rattle.std.proofs.lemmas.Option.{none-some}
 use Rattle.llrp_live.specs.declared.moments.Stage.{Stage}
 use Rattle.llrp_live.specs.declared.lines.Line.{Line}
-use Rattle.llrp_live.specs.declared.lines.Deed.{Deed}
 use Rattle.llrp_live.specs.Calls.Moments.{moment_of}
 use Rattle.llrp_live.specs.Private.Schedules.{with_at}
-use Rattle.llrp_live.specs.Calls.Schedules.{sooner, next_moment, is_at, happens_at, before_first, again_of, listed, TakesDue}
+use Rattle.llrp_session.specs.Calls.Due.{sooner}
+use Rattle.llrp_live.specs.Calls.Schedules.{next_moment, is_at, happens_at, before_first, again_of, listed, TakesDue}
 
 -- ---- the line with the next moment
 
@@ -77,13 +77,12 @@ same_at (line ∷ lines) (suc i) a b lt = same_at lines i a b (omega (arith, lt)
 pub one_line_at : (lines : List Line) (i : ℕ) (a b : Line) → i < length lines → a ≡ get_or lines i a → b ≡ get_or lines i b → a ≡ b
 one_line_at lines i a b lt x y = x ∙ same_at lines i a b lt ∙ sym y
 
-pub taken_due : (now : ℕ) (s : Stage) (old new : List Line) (m place : ℕ) (line : Line) (deed : Deed) → next_moment s old ≡ Some m → m ≤ now → place ≡ before_first s m old → line ≡ get_or old place line
-    → new ≡ with_at old place (again_of line) → deed ≡ line.deed → TakesDue now s old new deed
-taken_due now s old new m place line deed next come is line_is left deed_is =
+pub taken_due : (now : ℕ) (s : Stage) (old new : List Line) (m place : ℕ) (line : Line) → next_moment s old ≡ Some m → m ≤ now → place ≡ before_first s m old → line ≡ get_or old place line
+    → new ≡ with_at old place (again_of line) → TakesDue now s old new line
+taken_due now s old new m place line next come is line_is left =
     let lt : place < length old = subst (λ (x : ℕ). x < length old) (sym is) (place_below s m old next) in
     record {
       before = take place old;
-      line = line;
       after = drop (suc place) old;
       moment = m;
       next = next;
@@ -91,5 +90,4 @@ taken_due now s old new m place line deed next come is line_is left deed_is =
       first = length-take-le place old (omega (arith, lt)) ∙ is;
       parts = three old place line lt ∙ ap (λ (x : Line). take place old ++ x ∷ drop (suc place) old) (sym line_is);
       left = left ∙ left_at old place line (again_of line) lt;
-      deed_is = deed_is;
     }

@@ -2,4 +2,5 @@
 pub mod Doings
 pub mod Living
 pub mod Reading
+pub mod RefusedRequests
 pub mod Schedules

@@ -27,7 +27,7 @@ pub struct Stage {
 }
 
 /// The moment this many microseconds later, at most the greatest `u64`.
-pub(crate) fn later(moment: u64, wait: u64) -> u64
+pub fn later(moment: u64, wait: u64) -> u64
     ensures { result ≡ the_later moment wait }
 {
     moment.saturating_add(wait)
@@ -35,7 +35,7 @@ pub(crate) fn later(moment: u64, wait: u64) -> u64
 
 /// The moment at which a line happens, in microseconds, or `None` if that is not known yet. A line that
 /// waits for frames happens at 0, which is at once, when they were taken.
-pub(crate) fn moment_of(stage: Stage, when: When) -> Option<u64>
+pub fn moment_of(stage: Stage, when: When) -> Option<u64>
     ensures { result ≡ the_moment_of stage when }
 {
     match when {

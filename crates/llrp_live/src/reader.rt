@@ -4,15 +4,16 @@ ghost use Rattle.std.specs.Prelude.{◌≡◌, ◌≤◌, ◌++◌, [], Bool, If
 ghost use Rattle.llrp_stream.specs.declared.item.Item.{Item as TheItem};
 ghost use Rattle.llrp_listing.specs.declared.outcome.ToolErr.{ToolErr as TheToolErr};
 ghost use Rattle.llrp_session.specs.Calls.ReaderSteps.{event_of};
-ghost use Rattle.llrp_tree.specs.declared.TheConstants.{MAX_LIMIT};
-ghost use Rattle.llrp_live.specs.Calls.Doings.{Dated, Happens};
+ghost use Rattle.llrp_session.specs.Calls.Due.{next_due};
+ghost use Rattle.llrp_session.specs.Calls.NextClient.{for_next_client};
+ghost use Rattle.llrp_live.specs.Calls.Doings.{Dated, Happens, Notes, course};
 ghost use Rattle.llrp_live.specs.Private.Living.{DoesEvent, DoesItem, IsTaken, count_more as the_count_more, phase_after as the_phase_after};
 
 use crate::doing::{Doing, closes, doing_of};
 use llrp_answers::Answers;
 use llrp_listing::{ToolErr, error_of};
 use llrp_schema::KindSet;
-use llrp_session::{Reader, ReaderIn, StepFault};
+use llrp_session::{Reader, ReaderIn, SideEvent, StepFault};
 use llrp_stream::{Decoder, End, Fed, Item};
 use llrp_tree::Message;
 use llrp_versions::Version;
@@ -128,11 +129,9 @@ impl LiveReader {
     ghost use Rattle.llrp_live.specs.Calls.Living.{Begun, EndsAll, Feeds, Happened, IsOver, Lives, begun, taken_of};
     ghost use Rattle.llrp_live.specs.Private.Living.{TakesPiece};
 
-    /// A reader that `Reader::new` made, of the whole standard, before anything happened, which has
-    /// these answers to messages that the profile does not have. It takes no memory.
+    /// A reader of the whole standard before its client came, which has these answers to messages that
+    /// the profile does not have. It takes no memory.
     pub fn new(alloc: Global, core: Reader, answers: Answers) -> LiveReader
-        requires least { 10 ≤ core.limit }
-        requires most { core.limit ≤ MAX_LIMIT }
         ensures { Lives (begun core answers.pairs.items) [] [] [] result }
     {
         let decoder = Decoder::new_in(alloc, KindSet::Standard, core.limit());
@@ -174,6 +173,44 @@ impl LiveReader {
     {
         happen(&mut self.core, now, event, out)?;
         Ok(())
+    }
+
+    /// Lets something happen beside the reader's machine at the moment `now`, in microseconds, and appends
+    /// the message that says so, if a client is connected. The error is that memory ran out, which
+    /// changes nothing.
+    pub fn notify(
+        &mut self,
+        now: u64,
+        event: SideEvent,
+        out: &mut Vec<Message>,
+    ) -> Result<(), AllocError>
+        ensures notes { OnOk result ((b : Begun) (before : List Dated) (bytes : List ℕ)
+            (items : List TheItem) → Lives b before bytes items self.old
+            → Happened (record { now = now; doing = Notes event }) b before bytes
+            items self.old self.new out.old.items out.new.items) }
+        ensures self_unchanged { OnErr result (self.new ≡ self.old) }
+        ensures out_unchanged { OnErr result (out.new.items ≡ out.old.items) }
+    {
+        self.core.notify(now, event, out)?;
+        Ok(())
+    }
+
+    /// When the reader next does something by itself, in microseconds, as [`Reader::next_due`] says.
+    pub fn next_due(&self) -> Option<u64>
+        ensures { (b : Begun) (before : List Dated) (bytes : List ℕ) (items : List TheItem)
+            → Lives b before bytes items self.now
+            → result ≡ next_due (course b.reader before).reader }
+    {
+        self.core.next_due()
+    }
+
+    /// The reader as its client leaves it to the next one ([`Reader::leave`]), however that ended.
+    pub fn into_reader(self) -> Reader
+        ensures { result ≡ for_next_client self.core }
+    {
+        let mut core = self.core;
+        core.leave();
+        core
     }
 
     /// Takes the items of a piece at a moment. Returns whether one of them closed the connection.

@@ -2,10 +2,11 @@
 
 ghost use Rattle.std.specs.Prelude.{◌≡◌, ◌<◌, IfNone, IfOk, IfSome, List, length, slice_index_or};
 ghost use Rattle.llrp_live.specs.Private.Schedules.{with_at};
-ghost use Rattle.llrp_live.specs.Calls.Schedules.{NoneIsDue, TakesDue, again_of as the_again, before_first, happens_at, next_moment as the_next, put_off as the_put_off, sooner as the_sooner};
+ghost use Rattle.llrp_live.specs.Calls.Schedules.{NoneIsDue, TakesDue, again_of as the_again, before_first, happens_at, next_moment as the_next, put_off as the_put_off};
 
-use crate::lines::{Again, Deed, Line};
+use crate::lines::{Again, Line};
 use crate::moments::{Stage, When, later, moment_of};
+use llrp_session::sooner;
 use std::alloc::{AllocError, Global};
 use std::marker::Model;
 
@@ -22,17 +23,6 @@ impl Model for Schedule {
     ghost Value = { List Line };
 
     ghost view = { λ s. s.lines.items };
-}
-
-/// The sooner of two moments, if there are any.
-fn sooner(one: Option<u64>, other: Option<u64>) -> Option<u64>
-    ensures { result ≡ the_sooner one other }
-{
-    match (one, other) {
-        (Some(one), Some(other)) => Some(one.min(other)),
-        (Some(one), None) => Some(one),
-        (None, other) => other,
-    }
 }
 
 /// Whether a line happens at a moment.
@@ -78,13 +68,6 @@ fn line_at(lines: &[Line], place: usize) -> Line
     lines[place]
 }
 
-/// What happens by a line.
-fn deed_of(line: Line) -> Deed
-    ensures { result ≡ line.deed }
-{
-    line.deed
-}
-
 /// From when on a line waits that is put off by this many microseconds.
 fn put_off(when: When, period: u64) -> When
     ensures { result ≡ the_put_off when period }
@@ -105,11 +88,13 @@ fn again_of(line: Line) -> Option<Line>
     ensures { result ≡ the_again line }
 {
     match line.again {
-        Some(Again { period, left }) if period < left => Some(Line {
+        Some(Again { period, left, done }) if period < left => Some(Line {
+            number: line.number,
             when: put_off(line.when, period),
             again: Some(Again {
                 period,
                 left: left - period,
+                done: later(done, 1),
             }),
             deed: line.deed,
         }),
@@ -148,10 +133,10 @@ impl Schedule {
         }
     }
 
-    /// Takes out the line that is due at the moment `now`, in microseconds, and returns what happens: of
-    /// the lines with the smallest moment the first in the script. A line that happens again waits once
-    /// more, in its place. Returns `None`, and changes nothing, if no line is due.
-    pub fn take_due(&mut self, now: u64, stage: Stage) -> Option<Deed>
+    /// Takes out the line that is due at the moment `now`, in microseconds, and returns it: of the lines
+    /// with the smallest moment the first in the script. A line that happens again waits once more, in
+    /// its place. Returns `None`, and changes nothing, if no line is due.
+    pub fn take_due(&mut self, now: u64, stage: Stage) -> Option<Line>
         ensures taken { IfSome result (TakesDue now stage self.old self.new) }
         ensures none { IfNone result (NoneIsDue now stage self.old × (self.new ≡ self.old)) }
     {
@@ -160,9 +145,9 @@ impl Schedule {
             return None;
         }
         let place = place_of(stage, moment, self.lines.as_slice());
-        let deed = deed_of(line_at(self.lines.as_slice(), place));
+        let line = line_at(self.lines.as_slice(), place);
         let again = again_of(line_at(self.lines.as_slice(), place));
         self.put(place, again);
-        Some(deed)
+        Some(line)
     }
 }

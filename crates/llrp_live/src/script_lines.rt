@@ -1,5 +1,8 @@
 //! How the lines of a script in real time are read.
 
+mod own_deeds;
+mod tags;
+
 ghost use Rattle.std.specs.Prelude.{◌≡◌, IfOk, IfSome, List, ℕ};
 ghost use Rattle.llrp_endpoints.specs.Calls.Script.{IsActionLine, IsEntryLine};
 ghost use Rattle.llrp_live.specs.Calls.Lines.{IsDeed, IsLine, IsRepeated, IsTime, IsWhen};
@@ -8,6 +11,7 @@ use crate::lines::{Again, Deed, Line};
 use crate::moments::When;
 use llrp_endpoints::{Action, Entry, Script};
 use llrp_listing::{ToolErr, number_of, split_once};
+use own_deeds::own_deed_of;
 use std::alloc::{AllocError, Global};
 
 /// The greatest number of a time, in its unit.
@@ -63,7 +67,7 @@ fn action_of(alloc: Global, text: &[u8]) -> Result<Option<Action>, AllocError>
 }
 
 /// The microseconds of a time, such as `500ms` or `2s`.
-fn time_of(text: &[u8]) -> Option<u64>
+pub(crate) fn time_of(text: &[u8]) -> Option<u64>
     ensures { IfSome result (λ wait. IsTime wait text.now) }
 {
     if let Some(digits) = text.strip_suffix(b"ms".as_slice()) {
@@ -102,14 +106,8 @@ fn deed_by(action: Action) -> Deed
 fn deed_of(alloc: Global, text: &[u8]) -> Result<Option<Deed>, AllocError>
     ensures { IfOk result (λ deed. IfSome deed (λ d. IsDeed d text.now)) }
 {
-    if text == b"close".as_slice() {
-        return Ok(Some(Deed::Close));
-    }
-    if let Some(time) = text.strip_prefix(b"silent ".as_slice()) {
-        return match time_of(time) {
-            Some(wait) => Ok(Some(Deed::Silent { wait })),
-            None => Ok(None),
-        };
+    if let Some(deed) = own_deed_of(text) {
+        return Ok(Some(deed));
     }
     match action_of(alloc, text)? {
         Some(action) => Ok(Some(deed_by(action))),
@@ -131,12 +129,18 @@ fn again_of(text: &[u8]) -> Option<(Option<Again>, &[u8])>
     if period == 0 {
         return None;
     }
-    Some((Some(Again { period, left }), deed))
+    let again = Again {
+        period,
+        left,
+        done: 0,
+    };
+    Some((Some(again), deed))
 }
 
-/// The line with a moment that these octets without LF are.
-fn timed_line(alloc: Global, text: &[u8]) -> Result<Option<Line>, AllocError>
-    ensures { IfOk result (λ line. IfSome line (λ l. IsLine l text.now)) }
+/// The line with a moment that these octets without LF are, with its number.
+fn timed_line(alloc: Global, number: u64, text: &[u8]) -> Result<Option<Line>, AllocError>
+    ensures line { IfOk result (λ line. IfSome line (λ l. IsLine l text.now)) }
+    ensures number { IfOk result (λ line. IfSome line (λ l. l.number ≡ number)) }
 {
     let Some((first, rest)) = split_once(text, b' ') else {
         return Ok(None);
@@ -148,23 +152,33 @@ fn timed_line(alloc: Global, text: &[u8]) -> Result<Option<Line>, AllocError>
         return Ok(None);
     };
     match deed_of(alloc, rest)? {
-        Some(deed) => Ok(Some(Line { when, again, deed })),
+        Some(deed) => Ok(Some(Line {
+            number,
+            when,
+            again,
+            deed,
+        })),
         None => Ok(None),
     }
 }
 
-/// The line of a script that these octets without LF are: `AFTER NOW ACTION` as in a [`Script`], or a
-/// moment, perhaps `every TIME for TIME`, and `ACTION`, `close` or `silent TIME`. The moment is
-/// `accepted+TIME` or `started+TIME`; TIME is such as `500ms` or `2s`. Returns `None` if they are none. The only error is that
-/// memory ran out.
-pub fn line_of(alloc: Global, text: &[u8]) -> Result<Option<Line>, AllocError>
-    ensures { IfOk result (λ line. IfSome line (λ l. IsLine l text.now)) }
+/// The line of a script that these octets without LF are, with its number: `AFTER NOW ACTION` as in a
+/// [`Script`], or a moment, perhaps `every TIME for TIME`, and what happens: `ACTION`,
+/// `seen ANTENNAS RSSIS FILE` of the tags of a file, `close`,
+/// `silent TIME`, `antenna N on`, `antenna N off`, `gpi N high`, `gpi N low`,
+/// `expect KIND within TIME`, `octets HEX`, `send`, `cut N` or `status N KIND TEXT`. The moment is
+/// `accepted+TIME` or `started+TIME`; TIME is such as `500ms` or `2s`. Returns `None` if they are none.
+/// The only error is that memory ran out.
+pub fn line_of(alloc: Global, number: u64, text: &[u8]) -> Result<Option<Line>, AllocError>
+    ensures line { IfOk result (λ line. IfSome line (λ l. IsLine l text.now)) }
+    ensures number { IfOk result (λ line. IfSome line (λ l. l.number ≡ number)) }
 {
-    if let Some(line) = timed_line(alloc, text)? {
+    if let Some(line) = timed_line(alloc, number, text)? {
         return Ok(Some(line));
     }
     match entry_of(alloc, text)? {
         Some(Entry { after, now, action }) => Ok(Some(Line {
+            number,
             when: When::Frames { after, now },
             again: None,
             deed: deed_by(action),

@@ -8,7 +8,7 @@ use llrp_schema::{Kind, number};
 use llrp_tree::{Message, Node, ParamKind};
 
 /// Whether a parameter is of a kind.
-fn is_parameter(node: &Node, kind: ParamKind) -> bool
+pub(crate) fn is_parameter(node: &Node, kind: ParamKind) -> bool
     ensures { result ≡ starts.is_parameter node.now kind }
 {
     number(Kind::Parameter(node.kind())) == number(Kind::Parameter(kind))

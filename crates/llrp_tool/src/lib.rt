@@ -5,8 +5,8 @@
 pub mod laws;
 
 pub use llrp_commands::{
-    AccessWords, AskWords, LIMIT, NetworkCommand, PlanWords, SimWords, StopWords, USAGE,
-    WatchWords, answer, files_asked, network_command, reads_input, run_command, texts_asked,
+    AccessWords, AskWords, LIMIT, LabelWords, NetworkCommand, PlanWords, SimWords, StopWords,
+    USAGE, WatchWords, answer, files_asked, network_command, reads_input, run_command, texts_asked,
 };
 pub use llrp_endpoints::{
     Action, Endpoint, Entry, Gathering, LineForm, Plan, PlanErr, PlanFault, Script, Serving,

@@ -1,5 +1,5 @@
 -- The file of --access, and what a reader answers to its messages.
-use Rattle.std.specs.Prelude.{◌≡◌, ℕ, suc, ◌-◌, ◌==◌, ◌&&◌, ◌||◌, ◌⊎◌, ⊤, Bool, true, false, not, if◌then◌else◌, List, [], ◌∷◌, take, filter, find, Option, None, Some, min}
+use Rattle.std.specs.Prelude.{◌≡◌, ℕ, suc, ◌-◌, ◌==◌, ◌&&◌, ◌||◌, ◌⊎◌, ⊤, Bool, true, not, if◌then◌else◌, List, [], ◌∷◌, take, filter, find, Option, None, Some, min}
 use Rattle.std.specs.Borrow.{Bor}
 use Rattle.std.specs.List.{position}
 use Rattle.std.specs.Option.{option_map}
@@ -57,7 +57,7 @@ pub record ListsAsides (text : List ℕ) (a : Asides) : Type 0 where
 abbrev pub left_after : ℕ → Bool → ℕ
 left_after left begins = if begins then left - 1 else left
 
--- how many octets stand before the line of the message that comes after so many others, where a line begins here or does not
+-- how many octets stand before the line of the message that comes after this many others, where a line begins here or does not
 abbrev pub message_start : ℕ → Bool → List ℕ → ℕ
 message_start left starts [] = 0
 message_start left starts (b ∷ bs) = if (starts && (b == 48)) && (left == 0) then 0 else suc (message_start (left_after left (starts && (b == 48))) (b == 10) bs)

@@ -1,5 +1,5 @@
 -- How `sim` serves clients one after another.
-use Rattle.std.specs.Prelude.{◌≡◌, ℕ, ◌+◌, ◌-◌, ◌^◌, ◌<◌, ◌≤◌, ◌⊎◌, ◌==◌, Bool, true, false, if◌then◌else◌, List, [], ◌∷◌, ◌++◌, Option, Some, None, Result, Ok, Err, codes, decimal}
+use Rattle.std.specs.Prelude.{◌≡◌, ℕ, ◌+◌, ◌-◌, ◌^◌, ◌<◌, ◌≤◌, ◌⊎◌, ◌==◌, Bool, true, false, if◌then◌else◌, List, ◌++◌, Option, Some, None, Result, Ok, Err, codes, decimal}
 use Rattle.std.specs.Borrow.{Bor}
 use Rattle.std.specs.List.{list_any}
 use Rattle.llrp_stream.specs.Device.{SourceLog, SinkLog}
@@ -60,6 +60,10 @@ abbrev pub listens_on : Option (Bor (List ℕ)) → List ℕ
 listens_on None = codes "127.0.0.1"
 listens_on (Some address) = address.now
 
+-- the port on which it listens: a free one where it is to be 0
+abbrev pub IsPortOf : (wanted port : ℕ) → Type 0
+IsPortOf wanted port = (wanted ≡ 0) ⊎ (port ≡ wanted)
+
 -- ---- the command
 
 -- where it is to say so, it has said where it listens
@@ -76,8 +80,8 @@ FailsToSay false address port e0 e1 answer = ⊥
 abbrev pub ServesAt : SimWords → List Entry → SinkLog → SinkLog → Result ℕ ToolErr → Type 0
 ServesAt words entries e0 e1 answer =
     Concludes None e0 e1 answer
-    ⊎ FailsToSay words.ready (listens_on words.bind) words.port e0 e1 answer
-    ⊎ ((e : SinkLog) × MaySay words.ready (listens_on words.bind) words.port e0 e × ServesClients words.all entries (most_clients words.clients) e e1 answer)
+    ⊎ ((port : ℕ) × IsPortOf words.port port × FailsToSay words.ready (listens_on words.bind) port e0 e1 answer)
+    ⊎ ((port : ℕ) × (e : SinkLog) × IsPortOf words.port port × MaySay words.ready (listens_on words.bind) port e0 e × ServesClients words.all entries (most_clients words.clients) e e1 answer)
 
 -- a script that is read is served, and one that is not ends the command
 abbrev pub ServesScript : SimWords → Result (List Entry) ToolErr → SinkLog → SinkLog → Result ℕ ToolErr → Type 0

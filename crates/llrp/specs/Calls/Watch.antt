@@ -18,6 +18,7 @@ use Rattle.llrp_endpoints.specs.ReportedTags.{AreTagsOfStream}
 use Rattle.llrp_endpoints.specs.declared.tag_lister.TagLister.{TagLister}
 use Rattle.llrp_endpoints.specs.Calls.TagListing.{HasTags}
 use Rattle.llrp_endpoints.specs.Watching.{RunsWatching, Turn, pieces_of}
+use Rattle.llrp_labels.specs.declared.labels.Labels.{Labels}
 use Rattle.llrp_power.specs.declared.capabilities.Transmitter.{Transmitter}
 use Rattle.llrp_json.specs.Calls.PieceLines.{HasListed, Listing}
 use Rattle.llrp_stream.specs.Calls.Frames.{limit_of}
@@ -28,6 +29,7 @@ use Rattle.llrp.specs.declared.watch.TheConstants.{MOST_OCTETS}
 use Rattle.llrp.specs.declared.watch_plan.MadeRoSpec.{MadeRoSpec}
 use Rattle.llrp.specs.declared.watch_plan.TheConstants.{KEEPALIVE}
 use Rattle.llrp.specs.Calls.Network.{unnumbered}
+use Rattle.llrp.specs.Calls.Labels.{AreLabelledLines}
 
 -- ---- the ROSpec
 
@@ -63,16 +65,17 @@ watch_plan words plan =
 
 -- ---- lines
 
--- A printer of this form, limit and name, which began where its output had these octets, received these turns: of each it appended the lines of the tags of
--- the reports that are whole with its piece, with some moment. These are all lines so far, without their moments.
-pub data Prints (form : LineForm) (limit : ℕ) (name : Option (List ℕ)) (began : Option (List ℕ)) : List Turn → List ℕ → Option (List ℕ) → Type 0 where
-  no_turn : Prints form limit name began [] [] began
-  one_more : (turns : List Turn) (lines : List ℕ) (taken : Option (List ℕ)) (t : Turn) (more : List ℕ) (micros : ℕ) (text : List ℕ) (next : Option (List ℕ)) → Prints form limit name began turns lines taken
-      → AreTagsOfStream form limit (pieces_of (turns ++ t ∷ [])) (lines ++ more) → AreMarked form micros name more text → Appends taken next text → Prints form limit name began (turns ++ t ∷ []) (lines ++ more) next
+-- A printer of this form, limit, labels and name, which began where its output had these octets, received these turns: of each it appended the lines of the
+-- tags of the reports that are whole with its piece, with these labels and some moment. These are all lines so far, without labels and moments.
+pub data Prints (form : LineForm) (limit : ℕ) (labels : Option Labels) (name : Option (List ℕ)) (began : Option (List ℕ)) : List Turn → List ℕ → Option (List ℕ) → Type 0 where
+  no_turn : Prints form limit labels name began [] [] began
+  one_more : (turns : List Turn) (lines : List ℕ) (taken : Option (List ℕ)) (t : Turn) (more labelled : List ℕ) (micros : ℕ) (text : List ℕ) (next : Option (List ℕ)) → Prints form limit labels name began turns lines taken
+      → AreTagsOfStream form limit (pieces_of (turns ++ t ∷ [])) (lines ++ more) → AreLabelledLines labels form more labelled → AreMarked form micros name labelled text → Appends taken next text
+      → Prints form limit labels name began (turns ++ t ∷ []) (lines ++ more) next
 
--- what such a printer says of itself, which has this lister and whose output has these octets
-abbrev pub PrintsTo : TagLister → Option (List ℕ) → Option (List ℕ) → SinkLog → List Turn → Type 0
-PrintsTo lister name taken base turns = (lines : List ℕ) × HasTags lister.decoder.limit (pieces_of turns) lines lister × Prints lister.form lister.decoder.limit name base.taken turns lines taken
+-- what such a printer says of itself, which has this lister and these labels, and whose output has these octets
+abbrev pub PrintsTo : TagLister → Option Labels → Option (List ℕ) → Option (List ℕ) → SinkLog → List Turn → Type 0
+PrintsTo lister labels name taken base turns = (lines : List ℕ) × HasTags lister.decoder.limit (pieces_of turns) lines lister × Prints lister.form lister.decoder.limit labels name base.taken turns lines taken
 
 -- What a printer of messages says of itself, which has this lister and whose output has these octets: of the octets of these turns, read one after another, it
 -- appended the line of each frame that is whole in them, as show --json --all --limit prints it.

@@ -11,7 +11,7 @@ fn tags_of_json_are_counted(rt: HostRuntime) -> Result<(), Fail> {
     assert!(rt; progress.write(first)? == first.len());
     let second = b"pc\":\"bits 4 xA0\"}\n{\"report\":1}\n{\"tags\":2,\"reports\":2}\n".as_slice();
     assert!(rt; progress.write(second)? == second.len());
-    assert!(rt; progress.tags == 2);
+    assert!(rt; progress.count.tags == 2);
     Ok(())
 }
 
@@ -32,7 +32,7 @@ fn tags_are_counted_over_pieces(rt: HostRuntime) -> Result<(), Fail> {
         written.as_slice()
             == b"urn:epc:tag:gid-96:1.2.3 1 -60\n- - -\n= 2\nbits 4 xA0 - -\n= 1\ntotal 3 2\n".as_slice()
     );
-    let Some(shown) = progress.terminal else {
+    let Some(shown) = progress.count.terminal else {
         return Err(Fail::from("no terminal"));
     };
     assert!(rt;

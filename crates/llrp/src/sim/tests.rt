@@ -78,6 +78,7 @@ fn a_refused_script_and_a_taken_port(rt: HostRuntime) -> Result<(), Fail> {
         clock: None,
         answers: None,
         ready: true,
+        keep: false,
     };
     for (script, status, line) in [
         (

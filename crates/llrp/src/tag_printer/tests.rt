@@ -20,8 +20,8 @@ fn has_moment(text: &[u8], at: usize) -> bool {
     }
 }
 
-/// RO_ACCESS_REPORT of one tag (LLRP 1.1, section 16.2.1): EPC-96, AntennaID, PeakRSSI, C1G2ReadOpSpecResult of one word and
-/// Custom of one octet.
+/// RO_ACCESS_REPORT of one tag (LLRP 1.1, section 16.2.1): EPC-96, AntennaID, PeakRSSI, C1G2ReadOpSpecResult
+/// of one word and Custom of one octet.
 const REPORT: &[u8] =
     b"\x04\x3D\0\0\0\x38\0\0\0\x01\0\xF0\0\x2E\x8D\x30\x74\x25\x7B\xF7\x19\x4E\x40\0\0\x1A\x85\x81\0\x01\x86\xC4\
     \x01\x5D\0\x0B\0\0\x01\0\x01\xE2\0\x03\xFF\0\x0D\0\0\x65\x1A\0\0\0\x25\xAA";
@@ -39,7 +39,7 @@ const WORDS: &[u8] = b"urn:epc:tag:sgtin-96:3.0614141.812345.6789 1 -60 ";
 fn words_with_a_moment(rt: HostRuntime) -> Result<(), ToolErr> {
     let deadline = Deadline::new(None);
     let output = Vec::new(rt.alloc());
-    let mut printer = TagPrinter::new(&rt, &deadline, LineForm::Tags, None, 4096, output);
+    let mut printer = TagPrinter::new(&rt, &deadline, LineForm::Tags, None, None, 4096, output);
     let (first, second) = REPORT.split_at(30);
     assert!(rt; printer.turn(first, b"")? == false && !printer.has_printed());
     assert!(rt; printer.turn(second, b"")? == false && printer.has_printed());
@@ -54,7 +54,7 @@ fn objects_with_a_moment_and_a_name(rt: HostRuntime) -> Result<(), ToolErr> {
     let deadline = Deadline::new(None);
     let name = Some(b"dock \"1\"".as_slice());
     let output = Vec::new(rt.alloc());
-    let mut printer = TagPrinter::new(&rt, &deadline, LineForm::Full, name, 4096, output);
+    let mut printer = TagPrinter::new(&rt, &deadline, LineForm::Full, None, name, 4096, output);
     assert!(rt; printer.turn(REPORT, b"")? == false && !printer.has_failed());
     let text = printer.output.as_slice();
     assert!(rt; text.starts_with(b"{\"at\":\""));

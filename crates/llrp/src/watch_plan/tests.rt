@@ -1,4 +1,5 @@
 use super::*;
+use llrp_commands::LabelWords;
 use std::test::*;
 
 /// Words of `watch` without an option.
@@ -18,6 +19,10 @@ const NO_WORDS: WatchWords<'static> = WatchWords {
     power: None,
     messages: false,
     access: None,
+    labels: LabelWords {
+        keys: false,
+        schemes: None,
+    },
 };
 
 /// What is made without an option.

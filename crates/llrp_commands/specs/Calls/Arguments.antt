@@ -1,5 +1,5 @@
 -- The words that the program takes after its name, and the command that they name.
-use Rattle.std.specs.Prelude.{◌≡◌, ◌≢◌, ◌⊎◌, ◌||◌, ℕ, pos, ◌≤◌, List, [], ◌∷◌, Option, Some, None, Bool, true, false, if◌then◌else◌, unwrap_or, codes, option_map, option_and_then}
+use Rattle.std.specs.Prelude.{◌≡◌, ◌≢◌, ◌⊎◌, ◌||◌, ℕ, pos, ◌≤◌, List, [], ◌∷◌, Option, Some, None, Bool, true, false, if◌then◌else◌, is_some, unwrap_or, codes, option_map, option_and_then}
 use Rattle.std.specs.Str.{bytes_eq}
 use Rattle.std.specs.Borrow.{Bor}
 use Rattle.std.specs.Str.Parse.{signed_digits_value}
@@ -13,6 +13,7 @@ use Rattle.llrp_commands.specs.declared.arguments.NetworkCommand.{NetworkCommand
 use Rattle.llrp_commands.specs.declared.arguments.NetworkCommand.TheVariants.{Sim, Inventory, Loop, Watch, Stop, Ask, Access}
 use Rattle.llrp_commands.specs.declared.arguments.access_words.AccessWords.{AccessWords}
 use Rattle.llrp_commands.specs.declared.arguments.ask_words.AskWords.{AskWords}
+use Rattle.llrp_commands.specs.declared.arguments.label_words.LabelWords.{LabelWords}
 use Rattle.llrp_commands.specs.declared.arguments.sim_words.SimWords.{SimWords}
 use Rattle.llrp_commands.specs.declared.arguments.watch_words.WatchWords.{WatchWords}
 use Rattle.llrp_commands.specs.declared.arguments.watch_words.StopWords.{StopWords}
@@ -54,17 +55,29 @@ stream_app name = with_rule (limited_app name) json_rule
 abbrev pub text_option_rule : Text → Rule
 text_option_rule name = record (new_rule name) { long = Some name; value_names = 1 }
 
--- a command with the labels of a listing: the flag --keys and the option --schemes
+-- a command with the labels of lines: the flag --keys and the option --schemes
 abbrev pub with_labels : App → App
 with_labels a = with_rule (with_rule a (flag_rule (codes "keys"))) (text_option_rule (codes "schemes"))
 
--- show, which has the options --names and --segments too
+-- a command with the segments of a capture: the flag --segments and the option --port
+abbrev pub with_segments : App → App
+with_segments a = with_rule (with_rule a (flag_rule (codes "segments"))) (text_option_rule (codes "port"))
+
+-- show, which has the option --names and these too
 abbrev pub show_app : App
-show_app = with_rule (with_labels (with_rule (stream_app (codes "show")) (text_option_rule (codes "names")))) (text_option_rule (codes "segments"))
+show_app = with_segments (with_labels (with_rule (stream_app (codes "show")) (text_option_rule (codes "names"))))
 
 -- encode
 abbrev pub encode_app : App
 encode_app = with_labels (stream_app (codes "encode"))
+
+-- the option --only, the id of a message
+abbrev pub only_rule : Rule
+only_rule = record (new_rule (codes "only")) { long = Some (codes "only"); value_names = 1; parser = Some (Signed (pos 0) (pos 4294967295)) }
+
+-- explain, which has the option --only too
+abbrev pub explain_app : App
+explain_app = with_rule (stream_app (codes "explain")) only_rule
 
 -- the argument FILE, of which there may be several
 abbrev pub files_rule : Rule
@@ -104,11 +117,15 @@ count_rule name = record (new_rule name) { long = Some name; value_names = 1; pa
 -- a command with what test benches ask for
 abbrev pub with_bench : App → App
 with_bench a =
-    with_rule (with_rule (with_rule (with_rule (with_rule a (text_option_rule (codes "bind"))) (number_rule (codes "clients"))) (text_option_rule (codes "clock"))) (text_option_rule (codes "answers"))) (flag_rule (codes "ready"))
+    with_rule (with_rule (with_rule (with_rule (with_rule (with_rule a (text_option_rule (codes "bind"))) (number_rule (codes "clients"))) (text_option_rule (codes "clock"))) (text_option_rule (codes "answers"))) (flag_rule (codes "ready"))) (flag_rule (codes "keep"))
+
+-- the argument PORT of sim, a number from 0 to 65,535, which must be given; 0 is for a free port
+abbrev pub own_port_rule : Rule
+own_port_rule = record (new_rule (codes "PORT")) { required = true; parser = Some (Signed (pos 0) (pos 65535)) }
 
 -- sim PORT, with the flag --all
 abbrev pub sim_app : App
-sim_app = with_bench (with_rule (with_rule (new_app (codes "sim")) port_rule) all_rule)
+sim_app = with_bench (with_rule (with_rule (new_app (codes "sim")) own_port_rule) all_rule)
 
 -- a command with the flags --forms, --list and --json, and a form
 abbrev pub with_forms : App → App
@@ -118,9 +135,9 @@ with_forms a = with_rule (with_rule (with_rule (with_rule a (flag_rule (codes "f
 abbrev pub with_unsaid : App → App
 with_unsaid a = with_rule (with_rule (with_rule a prefix_digits_rule) filter_rule) (text_option_rule (codes "prefixes"))
 
--- epc, with a text and these options
+-- epc, with a text, these options, and --schemes
 abbrev pub epc_app : App
-epc_app = with_unsaid (with_forms (with_rule (new_app (codes "epc")) text_rule))
+epc_app = with_rule (with_unsaid (with_forms (with_rule (new_app (codes "epc")) text_rule))) (text_option_rule (codes "schemes"))
 
 -- the argument NAME
 abbrev pub name_rule : Rule
@@ -146,7 +163,7 @@ with_plan a = with_flags (with_numbers a)
 abbrev pub with_address : App → App
 with_address a = with_rule (with_rule a host_rule) port_rule
 
--- the least that the longest message of a client may be bounded by: it adds ROSpecs of so many octets
+-- the least that the longest message of a client may be bounded by: it adds ROSpecs of this many octets
 abbrev pub least_longest : ℕ
 least_longest = 4096
 
@@ -158,9 +175,9 @@ longest_rule default = record (new_rule (codes "limit")) { long = Some (codes "l
 abbrev pub with_hearing : App → App
 with_hearing a = with_rule (with_rule (with_rule a (count_rule (codes "timeout"))) (longest_rule (codes "65536"))) (flag_rule (codes "verbose"))
 
--- inventory HOST PORT, with a plan and these
+-- inventory HOST PORT, with a plan, these, and labels
 abbrev pub inventory_app : App
-inventory_app = with_hearing (with_plan (with_address (new_app (codes "inventory"))))
+inventory_app = with_labels (with_hearing (with_plan (with_address (new_app (codes "inventory")))))
 
 -- loop, with a plan
 abbrev pub loop_app : App
@@ -200,7 +217,7 @@ with_power a = with_rule a (text_option_rule (codes "power"))
 
 -- watch HOST
 abbrev pub watch_app : App
-watch_app = with_rule (with_rule (with_power (with_end (with_records (with_bounds (with_lasting (with_target (new_app (codes "watch")))))))) (flag_rule (codes "messages"))) (text_option_rule (codes "access"))
+watch_app = with_labels (with_rule (with_rule (with_power (with_end (with_records (with_bounds (with_lasting (with_target (new_app (codes "watch")))))))) (flag_rule (codes "messages"))) (text_option_rule (codes "access")))
 
 -- stop HOST
 abbrev pub stop_app : App
@@ -241,7 +258,7 @@ top_app = let a = new_app (codes "llrp") in record a { top = record a.top { no_b
 
 -- the program before the commands that it runs itself
 abbrev pub streams_app : App
-streams_app = with_subcommand (with_subcommand (with_subcommand (with_subcommand (with_subcommand top_app (with_files show_app).top) (with_files encode_app).top) epc_app.top) fields_app.top) (with_files (limited_app (codes "explain"))).top
+streams_app = with_subcommand (with_subcommand (with_subcommand (with_subcommand (with_subcommand top_app (with_files show_app).top) (with_files encode_app).top) epc_app.top) fields_app.top) (with_files explain_app).top
 
 -- the program before the commands that last
 abbrev pub runs_app : App
@@ -299,13 +316,14 @@ pub record Asks (words : List Text) (name : Text) (hex all json : Bool) (limit :
   pub form : IsFlag (json_in (command_in words)) json
   pub bound : HasNumber (codes "limit") (command_in words) limit
 
--- The words name explain, with --hex or without, with --all or without, and with this limit, given by --limit or not.
-pub record AsksExplain (words : List Text) (hex all : Bool) (limit : ℕ) : Type 0 where
-  pub parsed : parses words ≡ true
-  pub named : name_in (command_in words) ≡ Some (codes "explain")
-  pub flag : IsFlag (hex_in (command_in words)) hex
-  pub kinds : IsFlag (all_in (command_in words)) all
-  pub bound : HasNumber (codes "limit") (command_in words) limit
+-- the option was given with a word that spells this number, or it was not given
+abbrev pub HasOptionalNumber : Text → Option (Text × List Row) → Option ℕ → Type 0
+HasOptionalNumber id found (Some n) = HasNumber id found n
+HasOptionalNumber id found None = word_in id found ≡ None
+
+-- the words name explain so, with this id of --only or none
+abbrev pub AsksExplain : List Text → (hex all json : Bool) → (only : Option ℕ) → (limit : ℕ) → Type 0
+AsksExplain words hex all json only limit = Asks words (codes "explain") hex all json limit × HasOptionalNumber (codes "only") (command_in words) only
 
 -- The words have --keys or not, and this word of --schemes or none.
 abbrev pub AsksLabels : List Text → Bool → Option Text → Type 0
@@ -314,6 +332,18 @@ AsksLabels words keys schemes = IsFlag (flag_in (codes "keys") (command_in words
 -- they ask for no labels
 abbrev pub AsksNoLabels : List Text → Type 0
 AsksNoLabels words = AsksLabels words false None
+
+-- The words have --segments or not, and this word of --port or none.
+abbrev pub AsksSegments : List Text → Bool → Option Text → Type 0
+AsksSegments words segments port = IsFlag (flag_in (codes "segments") (command_in words)) segments × (word_in (codes "port") (command_in words) ≡ port)
+
+-- one of the two is there
+abbrev pub asks_segments : (segments : Bool) → (port : Option Text) → Bool
+asks_segments segments port = segments || is_some port
+
+-- they ask for no segments
+abbrev pub AsksNoSegments : List Text → Type 0
+AsksNoSegments words = AsksSegments words false None
 
 -- if the words are parsed and name show, they ask for it with each flag or without, and with one limit
 abbrev pub AsksShowIfNamed : List Text → Type 0
@@ -331,7 +361,7 @@ AsksEncodeIfNamed words =
 abbrev pub AsksExplainIfNamed : List Text → Type 0
 AsksExplainIfNamed words =
     parses words ≡ true → name_in (command_in words) ≡ Some (codes "explain")
-    → (hex : Bool) × (all : Bool) × (limit : ℕ) × AsksExplain words hex all limit
+    → (hex : Bool) × (all : Bool) × (json : Bool) × (only : Option ℕ) × (limit : ℕ) × AsksExplain words hex all json only limit
 
 -- The words name a command that reads standard input to its end.
 pub record AsksForInput (words : List Text) : Type 0 where
@@ -368,17 +398,12 @@ pub record AsksElsewhere (words : List Text) : Type 0 where
   pub no_fields : name_in (command_in words) ≢ Some (codes "fields")
   pub no_explain : name_in (command_in words) ≢ Some (codes "explain")
 
--- the option was given with a word that spells this number, or it was not given
-abbrev pub HasOptionalNumber : Text → Option (Text × List Row) → Option ℕ → Type 0
-HasOptionalNumber id found (Some n) = HasNumber id found n
-HasOptionalNumber id found None = word_in id found ≡ None
-
 -- the option was given with this text, or it was not given
 abbrev pub HasOptionalText : Text → Option (Text × List Row) → Option (Bor Text) → Type 0
 HasOptionalText id found text = word_in id found ≡ option_map (λ t. t.now) text
 
--- The words name epc, with or without a text, --forms, --list, --json, a form, a number of digits, a filter value and a file of company prefixes.
-pub record AsksEpcWith (words : List Text) (text : Option Text) (forms list json : Bool) (to : Option Text) (count filter : Option ℕ) (file : Option Text) : Type 0 where
+-- The words name epc, with or without a text, --forms, --list, --json, a form, a word for the set of schemes, a number of digits, a filter value and a file of company prefixes.
+pub record AsksEpcWith (words : List Text) (text : Option Text) (forms list json : Bool) (to schemes : Option Text) (count filter : Option ℕ) (file : Option Text) : Type 0 where
   pub parsed : parses words ≡ true
   pub named : name_in (command_in words) ≡ Some (codes "epc")
   pub given : word_in (codes "TEXT") (command_in words) ≡ text
@@ -386,19 +411,20 @@ pub record AsksEpcWith (words : List Text) (text : Option Text) (forms list json
   pub lines : IsFlag (flag_in (codes "list") (command_in words)) list
   pub object : IsFlag (json_in (command_in words)) json
   pub form : word_in (codes "to") (command_in words) ≡ to
+  pub set : word_in (codes "schemes") (command_in words) ≡ schemes
   pub digits : HasOptionalNumber (codes "prefix-digits") (command_in words) count
   pub value : HasOptionalNumber (codes "filter") (command_in words) filter
   pub table : word_in (codes "prefixes") (command_in words) ≡ file
 
 -- The words name epc, with this text and no option.
 abbrev pub AsksEpc : List Text → Text → Type 0
-AsksEpc words text = AsksEpcWith words (Some text) false false false None None None None
+AsksEpc words text = AsksEpcWith words (Some text) false false false None None None None None
 
 -- if the words are parsed and name epc, they ask for it with one text or none, and each option or not
 abbrev pub AsksEpcIfNamed : List Text → Type 0
 AsksEpcIfNamed words =
     parses words ≡ true → name_in (command_in words) ≡ Some (codes "epc")
-    → (text : Option Text) × (forms : Bool) × (list : Bool) × (json : Bool) × (to : Option Text) × (count filter : Option ℕ) × (file : Option Text) × AsksEpcWith words text forms list json to count filter file
+    → (text : Option Text) × (forms : Bool) × (list : Bool) × (json : Bool) × (to schemes : Option Text) × (count filter : Option ℕ) × (file : Option Text) × AsksEpcWith words text forms list json to schemes count filter file
 
 -- The words name epc with this file of company prefixes.
 pub record AsksEpcFile (words : List Text) (file : Text) : Type 0 where
@@ -425,7 +451,11 @@ IsSim found words =
     HasNumber (codes "PORT") found words.port × IsFlag (all_in found) words.all
     × HasOptionalText (codes "bind") found words.bind × HasOptionalNumber (codes "clients") found words.clients
     × HasOptionalText (codes "clock") found words.clock × HasOptionalText (codes "answers") found words.answers
-    × IsFlag (flag_in (codes "ready") found) words.ready
+    × IsFlag (flag_in (codes "ready") found) words.ready × IsFlag (flag_in (codes "keep") found) words.keep
+
+-- these are the labels of lines of tags
+abbrev pub AreTagLabels : Option (Text × List Row) → LabelWords → Type 0
+AreTagLabels found labels = IsFlag (flag_in (codes "keys") found) labels.keys × HasOptionalText (codes "schemes") found labels.schemes
 
 -- these are the options of watch
 abbrev pub IsWatch : Option (Text × List Row) → WatchWords → Type 0
@@ -437,7 +467,7 @@ IsWatch found words =
     × HasOptionalText (codes "save") found words.save × IsFlag (flag_in (codes "verbose") found) words.verbose
     × HasOptionalNumber (codes "for") found words.seconds × HasOptionalText (codes "name") found words.name
     × HasOptionalText (codes "power") found words.power × IsFlag (flag_in (codes "messages") found) words.messages
-    × HasOptionalText (codes "access") found words.access
+    × HasOptionalText (codes "access") found words.access × AreTagLabels found words.labels
 
 -- these are those of stop
 abbrev pub IsStop : Option (Text × List Row) → StopWords → Type 0
@@ -457,10 +487,10 @@ IsAccess found words =
 -- the command that was found is this one, with these arguments
 abbrev pub IsNetwork : Option (Text × List Row) → NetworkCommand → Type 0
 IsNetwork found (Sim words) = (name_in found ≡ Some (codes "sim")) × IsSim found words
-IsNetwork found (Inventory host port plan timeout limit verbose) =
+IsNetwork found (Inventory host port plan timeout limit verbose labels) =
     (name_in found ≡ Some (codes "inventory")) × (word_in (codes "HOST") found ≡ Some host.now) × HasNumber (codes "PORT") found port
     × IsPlan found plan × HasOptionalNumber (codes "timeout") found timeout × HasNumber (codes "limit") found limit
-    × IsFlag (flag_in (codes "verbose") found) verbose
+    × IsFlag (flag_in (codes "verbose") found) verbose × AreTagLabels found labels
 IsNetwork found (Loop plan) = (name_in found ≡ Some (codes "loop")) × IsPlan found plan
 IsNetwork found (Watch host words) = (name_in found ≡ Some (codes "watch")) × (word_in (codes "HOST") found ≡ Some host.now) × IsWatch found words
 IsNetwork found (Ask host words) = (name_in found ≡ Some (codes "ask")) × (word_in (codes "HOST") found ≡ Some host.now) × IsAsk found words
@@ -474,7 +504,7 @@ IsLongest limit = (least_longest ≤ limit) × (limit ≤ MAX_LIMIT)
 -- the most octets of a message are bounded so
 abbrev pub IsBounded : NetworkCommand → Type 0
 IsBounded (Watch host words) = IsLongest words.limit
-IsBounded (Inventory host port plan timeout limit verbose) = IsLongest limit
+IsBounded (Inventory host port plan timeout limit verbose labels) = IsLongest limit
 IsBounded command = Unit {0}
 
 -- The words name this command, which the program runs itself.

@@ -21,7 +21,7 @@ use Rattle.llrp_listing.specs.Calls.Show.{ListedIn, StoppedIn}
 use Rattle.llrp_listing.specs.Show.{ShowsIn}
 use Rattle.llrp_json.specs.Calls.Show.{ListedJson, StoppedJson}
 use Rattle.llrp_json.specs.JsonLines.{ShowsJson}
-use Rattle.llrp_commands.specs.Calls.Arguments.{Asks, AsksEpc, AsksNoLabels, command_in, word_in}
+use Rattle.llrp_commands.specs.Calls.Arguments.{Asks, AsksEpc, AsksNoLabels, AsksNoSegments, command_in, word_in}
 
 -- the set of kinds that a command takes, with --all or without
 abbrev pub set_of : Bool → KindSet
@@ -172,7 +172,7 @@ RanEpc text r0 r1 w0 w1 e0 e1 answer =
 -- if the words ask for show without --names, --segments and labels, it ran so
 abbrev pub ShowsIfAsked : List Text → SourceLog → SourceLog → SinkLog → SinkLog → SinkLog → SinkLog → Result ℕ ToolErr → Type 0
 ShowsIfAsked words r0 r1 w0 w1 e0 e1 answer =
-    (hex all json : Bool) (limit : ℕ) → Asks words (codes "show") hex all json limit → word_in (codes "names") (command_in words) ≡ None → AsksNoLabels words → word_in (codes "segments") (command_in words) ≡ None
+    (hex all json : Bool) (limit : ℕ) → Asks words (codes "show") hex all json limit → word_in (codes "names") (command_in words) ≡ None → AsksNoLabels words → AsksNoSegments words
     → RanShow json hex (set_of all) limit r0 r1 w0 w1 e0 e1 answer
 
 -- the same of epc

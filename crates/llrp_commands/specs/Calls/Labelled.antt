@@ -16,7 +16,7 @@ use Rattle.llrp_labels.specs.declared.fault.LabelErr.TheVariants.{Line, Stopped}
 use Rattle.llrp_labels.specs.declared.fault.LabelFault.{LabelFault}
 use Rattle.llrp_labels.specs.LabelledTexts.{IsPlainText, RefusesAt}
 use Rattle.llrp_labels.specs.LabelledRuns.{ShowsLabelled, label_fault_name}
-use Rattle.llrp_commands.specs.Calls.Arguments.{Asks, AsksLabels, command_in, word_in}
+use Rattle.llrp_commands.specs.Calls.Arguments.{Asks, AsksLabels, AsksSegments, asks_segments, command_in, word_in}
 use Rattle.llrp_commands.specs.Calls.Command.{Answers, DoesEncode, IsNotBegun, set_of, verdict_status}
 use Rattle.llrp_commands.specs.Calls.ShowNames.{AnswersMistake}
 
@@ -65,14 +65,14 @@ LabelsEncodedTo other keys schemes hex p limit r0 r1 w0 w1 e0 e1 answer =
     ⊎ (((labels : Labels) → MeansLabels other keys schemes labels → ⊥) × (r1 ≡ r0) × (w1 ≡ w0) × AnswersMistake e0 e1 answer)
 
 -- whether one of the options is there that change what show reads or prints
-abbrev pub goes_with_none : Option (Text × List Row) → Bool
-goes_with_none found = is_some (word_in (codes "names") found) || is_some (word_in (codes "segments") found)
+abbrev pub goes_with_none : Option (Text × List Row) → (segments : Bool) → (port : Option Text) → Bool
+goes_with_none found segments port = is_some (word_in (codes "names") found) || asks_segments segments port
 
--- if the words ask for show with labels, it ran so, or memory ran out before it began; --json, --names and --segments go with no labels
+-- if the words ask for show with labels, it ran so, or memory ran out before it began; --json, --names, --segments and --port go with no labels
 abbrev pub LabelsShownIfAsked : List Text → SourceLog → SourceLog → SinkLog → SinkLog → SinkLog → SinkLog → Result ℕ ToolErr → Type 0
 LabelsShownIfAsked words r0 r1 w0 w1 e0 e1 answer =
-    (hex all json keys : Bool) (limit : ℕ) (schemes : Option Text) → Asks words (codes "show") hex all json limit → AsksLabels words keys schemes → asks_labels keys schemes ≡ true
-    → IsNotBegun r0 r1 w0 w1 e0 e1 answer ⊎ ShownTo (json || goes_with_none (command_in words)) keys schemes hex (set_of all) limit r0 r1 w0 w1 e0 e1 answer
+    (hex all json keys segments : Bool) (limit : ℕ) (schemes port : Option Text) → Asks words (codes "show") hex all json limit → AsksLabels words keys schemes → AsksSegments words segments port → asks_labels keys schemes ≡ true
+    → IsNotBegun r0 r1 w0 w1 e0 e1 answer ⊎ ShownTo (json || goes_with_none (command_in words) segments port) keys schemes hex (set_of all) limit r0 r1 w0 w1 e0 e1 answer
 
 -- the same of encode; --json goes with no labels
 abbrev pub LabelsEncodedIfAsked : List Text → SourceLog → SourceLog → SinkLog → SinkLog → SinkLog → SinkLog → Result ℕ ToolErr → Type 0

@@ -14,7 +14,7 @@ use Rattle.llrp_json.specs.JsonLines.{end_json}
 use Rattle.llrp_json.specs.JsonNames.{IsNamedJson}
 use Rattle.llrp_json.specs.declared.names.Names.{Names}
 use Rattle.llrp_json.specs.declared.names.Names.TheVariants.{Own, Standard}
-use Rattle.llrp_commands.specs.Calls.Arguments.{Asks, AsksNoLabels, command_in, word_in}
+use Rattle.llrp_commands.specs.Calls.Arguments.{Asks, AsksNoLabels, AsksNoSegments, command_in, word_in}
 use Rattle.llrp_commands.specs.Calls.Command.{Answers, IsNotBegun, set_of, verdict_status}
 
 -- the word that asks for these names
@@ -61,5 +61,5 @@ RanNamed json word hex p limit r0 r1 w0 w1 e0 e1 answer = IsNotBegun r0 r1 w0 w1
 -- if the words ask for show with --names, no labels and no --segments, it ran so
 abbrev pub NamesIfAsked : List Text → SourceLog → SourceLog → SinkLog → SinkLog → SinkLog → SinkLog → Result ℕ ToolErr → Type 0
 NamesIfAsked words r0 r1 w0 w1 e0 e1 answer =
-    (hex all json : Bool) (limit : ℕ) (word : Text) → Asks words (codes "show") hex all json limit → word_in (codes "names") (command_in words) ≡ Some word → AsksNoLabels words → word_in (codes "segments") (command_in words) ≡ None
+    (hex all json : Bool) (limit : ℕ) (word : Text) → Asks words (codes "show") hex all json limit → word_in (codes "names") (command_in words) ≡ Some word → AsksNoLabels words → AsksNoSegments words
     → RanNamed json word hex (set_of all) limit r0 r1 w0 w1 e0 e1 answer

@@ -6,6 +6,7 @@ use Rattle.llrp_tree.specs.declared.TheConstants.{MAX_LIMIT}
 use Rattle.llrp_commands.specs.declared.arguments.Request.{Request}
 use Rattle.llrp_commands.specs.declared.arguments.epc_words.EpcWords.{EpcWords}
 use Rattle.llrp_commands.specs.declared.arguments.label_words.LabelWords.{LabelWords}
+use Rattle.llrp_commands.specs.declared.arguments.segment_words.SegmentWords.{SegmentWords}
 use Rattle.llrp_commands.specs.declared.arguments.Request.TheVariants.{Show, Encode, Epc, Fields, Explain, Network, Help, Usage}
 use Rattle.llrp_commands.specs.Calls.Arguments.{all_in, json_in, name_in, hex_in, flag_in, files_in, texts_in, HasNumber, HasOptionalNumber, HasOptionalText, IsBounded, IsFlag, IsNetwork}
 
@@ -25,19 +26,24 @@ IsUnsaid words = IfSome words.company_digits (λ count. IsInRange 6 12 count) ×
 abbrev pub IsLabelWords : Option (Text × List Row) → LabelWords → Type 0
 IsLabelWords found words = HasFlag (flag_in (codes "keys") found) words.keys × HasOptionalText (codes "schemes") found words.schemes
 
+-- these are the segments of a capture
+abbrev pub IsSegmentWords : Option (Text × List Row) → SegmentWords → Type 0
+IsSegmentWords found words = HasFlag (flag_in (codes "segments") found) words.segments × HasOptionalText (codes "port") found words.port
+
 -- these are the options of epc
 abbrev pub IsEpc : Option (Text × List Row) → EpcWords → Type 0
 IsEpc found words =
     HasOptionalText (codes "TEXT") found words.text × IsFlag (flag_in (codes "forms") found) words.forms × IsFlag (flag_in (codes "list") found) words.list
     × IsFlag (json_in found) words.json × HasOptionalText (codes "to") found words.to × HasOptionalNumber (codes "prefix-digits") found words.company_digits × HasOptionalNumber (codes "filter") found words.filter × HasOptionalText (codes "prefixes") found words.prefixes
+    × HasOptionalText (codes "schemes") found words.schemes
 
 -- the limit of what is requested, where it has one, is such a limit, that of watch one of a client, and what texts do not say is as above
 abbrev pub HasLimit : Request → Type 0
-HasLimit (Show hex all json names labels segments limit) = IsLimit limit
+HasLimit (Show hex all json names labels capture limit) = IsLimit limit
 HasLimit (Encode hex all json labels limit) = IsLimit limit
 HasLimit (Epc words) = IsUnsaid words
 HasLimit (Fields all name) = Unit {0}
-HasLimit (Explain hex all limit) = IsLimit limit
+HasLimit (Explain hex all json only limit) = IsLimit limit
 HasLimit (Network command) = IsBounded command
 HasLimit (Help text) = Unit {0}
 HasLimit (Usage text) = Unit {0}
@@ -52,13 +58,14 @@ IsTexts id found texts = texts ≡ texts_in id found
 
 -- what is requested is the command found, with its arguments
 abbrev pub IsRequest : Option (Text × List Row) → Request → Type 0
-IsRequest found (Show hex all json names labels segments limit) =
+IsRequest found (Show hex all json names labels capture limit) =
     (name_in found ≡ Some (codes "show")) × HasFlag (hex_in found) hex × HasFlag (all_in found) all × HasFlag (json_in found) json × HasNumber (codes "limit") found limit × HasOptionalText (codes "names") found names
-    × IsLabelWords found labels × HasOptionalText (codes "segments") found segments
+    × IsLabelWords found labels × IsSegmentWords found capture
 IsRequest found (Encode hex all json labels limit) =
     (name_in found ≡ Some (codes "encode")) × HasFlag (hex_in found) hex × HasFlag (all_in found) all × HasFlag (json_in found) json × HasNumber (codes "limit") found limit × IsLabelWords found labels
 IsRequest found (Epc words) = (name_in found ≡ Some (codes "epc")) × IsEpc found words
 IsRequest found (Fields all name) = (name_in found ≡ Some (codes "fields")) × HasFlag (all_in found) all × HasOptionalText (codes "NAME") found name
-IsRequest found (Explain hex all limit) = (name_in found ≡ Some (codes "explain")) × HasFlag (hex_in found) hex × HasFlag (all_in found) all × HasNumber (codes "limit") found limit
+IsRequest found (Explain hex all json only limit) =
+    (name_in found ≡ Some (codes "explain")) × HasFlag (hex_in found) hex × HasFlag (all_in found) all × HasFlag (json_in found) json × HasNumber (codes "limit") found limit × HasOptionalNumber (codes "only") found only
 IsRequest found (Network command) = IsNetwork found command
 IsRequest found _ = ⊥

@@ -54,7 +54,7 @@ abbrev pub HasWatch : List Row → Type 0
 HasWatch rows =
     MayHaveLongCount (codes "id") rows × MayHaveNumberWord (codes "every") rows × MayHaveNumberWord (codes "keepalive") rows × MayHaveNumberWord (codes "again") rows
     × HasFlagWord (codes "text") rows × HasNumberIn least_longest MAX_LIMIT (codes "limit") rows
-    × HasFlagWord (codes "verbose") rows × MayHaveLongCount (codes "for") rows × HasFlagWord (codes "messages") rows
+    × HasFlagWord (codes "verbose") rows × MayHaveLongCount (codes "for") rows × HasFlagWord (codes "messages") rows × HasFlagWord (codes "keys") rows
 
 -- the numbers of stop may be there
 abbrev pub HasStop : List Row → Type 0
@@ -76,27 +76,31 @@ HasEpc rows = HasFlagWord (codes "forms") rows × HasFlagWord (codes "list") row
 
 -- the port and the flags of sim are there, and its number may be
 abbrev pub HasSim : List Row → Type 0
-HasSim rows = HasNumberWord (codes "PORT") rows × HasFlagWord (codes "all") rows × MayHaveNumberWord (codes "clients") rows × HasFlagWord (codes "ready") rows
+HasSim rows = HasNumberWord (codes "PORT") rows × HasFlagWord (codes "all") rows × MayHaveNumberWord (codes "clients") rows × HasFlagWord (codes "ready") rows × HasFlagWord (codes "keep") rows
 
 -- sim, inventory, loop, watch, stop, ask or access, with what they need
 abbrev pub IsNetworkParse : Text → List Row → Type 0
 IsNetworkParse name rows =
     ((name ≡ codes "sim") × HasSim rows)
     ⊎ ((name ≡ codes "inventory") × HasWord (codes "HOST") rows × HasNumberWord (codes "PORT") rows × HasPlan rows × MayHaveNumberWord (codes "timeout") rows
-    × HasNumberIn least_longest MAX_LIMIT (codes "limit") rows × HasFlagWord (codes "verbose") rows)
+    × HasNumberIn least_longest MAX_LIMIT (codes "limit") rows × HasFlagWord (codes "verbose") rows × HasFlagWord (codes "keys") rows)
     ⊎ ((name ≡ codes "loop") × HasPlan rows)
     ⊎ ((name ≡ codes "watch") × HasWord (codes "HOST") rows × HasWatch rows)
     ⊎ ((name ≡ codes "stop") × HasWord (codes "HOST") rows × HasStop rows)
     ⊎ ((name ≡ codes "ask") × HasWord (codes "HOST") rows × HasAsk rows)
     ⊎ ((name ≡ codes "access") × HasWord (codes "HOST") rows × HasAccess rows)
 
--- the flags and the limit of a command over a stream
-abbrev pub HasLimitedWords : List Row → Type 0
-HasLimitedWords rows = HasFlagWord (codes "hex") rows × HasFlagWord (codes "all") rows × HasLimitWord (codes "limit") rows
-
--- those of show and encode
+-- the flags and the limit of show, encode and explain
 abbrev pub HasStreamWords : List Row → Type 0
 HasStreamWords rows = HasFlagWord (codes "hex") rows × HasFlagWord (codes "all") rows × HasLimitWord (codes "limit") rows × HasFlagWord (codes "json") rows
+
+-- an option that may be given: it has no word, or one that spells the id of a message
+abbrev pub MayHaveId : Text → List Row → Type 0
+MayHaveId id rows = MayHaveNumberIn 0 4294967295 id rows
+
+-- those of explain, whose id may be there
+abbrev pub HasExplain : List Row → Type 0
+HasExplain rows = HasStreamWords rows × MayHaveId (codes "only") rows
 
 -- the flag of fields is there
 abbrev pub HasFields : List Row → Type 0
@@ -104,7 +108,7 @@ HasFields rows = HasFlagWord (codes "all") rows
 
 -- epc, fields or explain, with what they need
 abbrev pub IsTextParse : Text → List Row → Type 0
-IsTextParse name rows = ((name ≡ codes "epc") × HasEpc rows) ⊎ ((name ≡ codes "fields") × HasFields rows) ⊎ ((name ≡ codes "explain") × HasLimitedWords rows)
+IsTextParse name rows = ((name ≡ codes "epc") × HasEpc rows) ⊎ ((name ≡ codes "fields") × HasFields rows) ⊎ ((name ≡ codes "explain") × HasExplain rows)
 
 -- a command, with what it needs
 abbrev pub IsParse : Text → List Row → Type 0

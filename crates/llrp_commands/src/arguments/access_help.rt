@@ -14,8 +14,8 @@ operation is a line with its result by name, and after a read the words in hexad
 AccessSpec and the ROSpec, both with the id 5084, are deleted before and after.
 
 The exit status is 0 if the tag did all operations, and what was read back is what was written; 1 if not, or
-if the reader refuses something or no tag comes; 4 if the connection was lost when the tag may have been
-changed (llrp: unknown, read again); else as ever.
+if the reader refuses something or no tag comes; 4 if a change was asked for and no result of it came, so
+that the tag may have been changed (llrp: unknown, read again); else as ever.
 
 Example:
   $ llrp access reader.example --tag any --read tid:0:6";

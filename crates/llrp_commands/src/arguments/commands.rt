@@ -3,7 +3,7 @@
 ghost use Rattle.std.specs.Prelude.{◌≡◌, IfOk, codes, false};
 ghost use Rattle.clap.specs.Words.{App, app_of, rule_of, with_rule, with_subcommand};
 ghost use Rattle.clap.specs.declared.builder.command.Command.TheViews.{out-Command};
-ghost use Rattle.llrp_commands.specs.Calls.Arguments.{all_rule, count_rule, files_rule, flag_rule, hex_app, inventory_app, json_rule, limit_rule, limited_app, llrp_app, loop_app, number_rule, port_rule, runs_app, encode_app, show_app, stream_app, streams_app, text_option_rule, top_app, with_address, with_files, with_flags, with_hearing, with_numbers, with_plan};
+ghost use Rattle.llrp_commands.specs.Calls.Arguments.{all_rule, count_rule, files_rule, flag_rule, hex_app, inventory_app, json_rule, limit_rule, limited_app, llrp_app, loop_app, number_rule, only_rule, port_rule, runs_app, encode_app, explain_app, show_app, stream_app, streams_app, text_option_rule, top_app, with_address, with_files, with_flags, with_hearing, with_numbers, with_plan};
 
 use crate::arguments::access_commands::access_command;
 use crate::arguments::ask_commands::ask_command;
@@ -11,6 +11,7 @@ use crate::arguments::epc_commands::epc_command;
 use crate::arguments::fields_command::fields_command;
 use crate::arguments::help::{ENCODE_HELP, EXPLAIN_HELP, INVENTORY_HELP, LOOP_HELP, SHOW_HELP};
 use crate::arguments::label_commands::with_labels;
+use crate::arguments::segment_commands::with_segments;
 use crate::arguments::sim_commands::sim_command;
 use crate::arguments::watch_commands::{longest_option, stop_command, watch_command};
 use clap::{Arg, ArgAction, Command, value_parser};
@@ -74,6 +75,18 @@ fn limit_option<'a>(alloc: Global) -> Arg<'a>
         .value_parser(value_parser!(u32).range(10..=MAX_LIMIT as i64))
         .default_value("65536")
         .help("The most octets that a message may have")
+}
+
+/// The option --only: the id of a message (LLRP 1.1, section 17.1), which has 32 bits.
+fn only_option<'a>(alloc: Global) -> Arg<'a>
+    ensures rule { rule_of result ≡ only_rule }
+    ensures local { result.global ≡ false }
+{
+    Arg::new(alloc, "only")
+        .long("only")
+        .value_name("ID")
+        .value_parser(value_parser!(u32))
+        .help("Print only the frames whose MessageID is ID; the others count")
 }
 
 /// A command over a stream, with --hex, --all and --limit.
@@ -302,8 +315,7 @@ fn show_command<'a>(alloc: Global) -> Result<Command<'a>, AllocError>
     let keys = "Print the key of each EPC after it, as gtin 80614141123458 6789";
     let named = with_argument(command, text_option(alloc, "names", "SET", names));
     let labelled = with_labels(alloc, named, keys);
-    let segments = "Read tshark's lines of a capture; the port is the reader's";
-    let cut = with_argument(labelled, text_option(alloc, "segments", "PORT", segments));
+    let cut = with_segments(alloc, labelled);
     with_argument(cut, files_argument(alloc))
 }
 
@@ -327,17 +339,19 @@ fn encode_command<'a>(alloc: Global) -> Result<Command<'a>, AllocError>
 
 /// The command `explain`.
 fn explain_command<'a>(alloc: Global) -> Result<Command<'a>, AllocError>
-    ensures app { IfOk result (λ c. app_of c ≡ with_files (limited_app (codes "explain"))) }
+    ensures app { IfOk result (λ c. app_of c ≡ with_files explain_app) }
     ensures local { IfOk result (λ c. (out-Command c).has_globals ≡ false) }
 {
-    let command = limited_command(
+    let command = stream_command(
         alloc,
         "explain",
         "Print each field of the messages of a stream, bit by bit",
         "Read hexadecimal digits in place of bytes",
+        "Print each frame as one object of JSON on a line",
         EXPLAIN_HELP,
     );
-    with_argument(command, files_argument(alloc))
+    let chosen = with_argument(command, only_option(alloc));
+    with_argument(chosen, files_argument(alloc))
 }
 
 /// Adds a timeout, the most octets of a message, and the flag for more to be said, to the command.
@@ -365,7 +379,9 @@ fn inventory_command<'a>(alloc: Global) -> Result<Command<'a>, AllocError>
     let command = Command::new(alloc, "inventory")
         .about("Print the tags that a reader sees")
         .after_help(INVENTORY_HELP);
-    with_hearing(alloc, with_plan(alloc, with_address(alloc, command)))
+    let planned = with_plan(alloc, with_address(alloc, command));
+    let keys = "Print the key of each EPC as members of its object, as gtin and serial";
+    with_labels(alloc, with_hearing(alloc, planned), keys)
 }
 
 /// The command `loop`.

@@ -90,5 +90,8 @@ pub(super) fn epc_command<'a>(alloc: Global) -> Result<Command<'a>, AllocError>
         .about("Print the text of a tag's word, or the word of a text")
         .after_help(EPC_HELP);
     let texted = with_argument(Ok(command), text_argument(alloc));
-    with_unsaid(alloc, with_forms(alloc, texted))
+    let schemes =
+        "The schemes of EPCs: all, which has GIAI-96, GSRNP-96, SGCN-96, CPI-96 and USDoD-96 too";
+    let formed = with_unsaid(alloc, with_forms(alloc, texted));
+    with_argument(formed, text_option(alloc, "schemes", "SCHEMES", schemes))
 }

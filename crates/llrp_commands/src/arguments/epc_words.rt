@@ -29,6 +29,8 @@ pub(crate) struct EpcWords<'a> {
     pub(crate) filter: Option<u8>,
     /// The path of a file that says how many digits company prefixes have.
     pub(crate) prefixes: Option<&'a str>,
+    /// The word for the set of schemes.
+    pub(crate) schemes: Option<&'a str>,
 }
 
 /// The number of digits of company prefixes, if it is given; the parse has checked it.
@@ -66,5 +68,6 @@ pub(super) fn epc_words<'a>(inner: &ArgMatches<'a>) -> EpcWords<'a>
         company_digits: company_digits(inner),
         filter: filter(inner),
         prefixes: optional_text(inner, "prefixes"),
+        schemes: optional_text(inner, "schemes"),
     }
 }

@@ -15,11 +15,12 @@ docs/tables.md leaves out of its set; with --all they are those of the whole sta
 is 0 if all frames are messages and the last one is whole, and 1 if not. With --json each frame is one
 line of JSON in place of its lines, as docs/json.md says; with --names standard its fields have the
 names that they have with --all, and with --names profile, or without it, those of their own set.
-With --keys a tab and the key of an EPC follow it, and with --schemes all words of GIAI-96 and GSRNP-96
-have their tag URIs; both read all of the input first, and go with no --json.
+With --keys a tab and the key of an EPC follow it, and with --schemes all words of GIAI-96, GSRNP-96,
+SGCN-96, CPI-96 and USDoD-96 have their tag URIs; both read all of the input first, and go with no
+--json.
 With --segments the input is lines that examples/capture.sh makes of a capture. A line # TIME STREAM SIDE
-stands before each frame, where SIDE is reader or client, and PORT is the reader's; ? GAP N says that N
-bytes of that side are in no frame, since a segment is missing. With --json these are members.
+stands before each frame, where SIDE is reader or client; ? GAP N says that N bytes of that side are in no
+frame, since a segment is missing. With --json these are members.
 Of several files the greatest status counts; that of a file that cannot be read is 3.
 
 Example:
@@ -64,6 +65,9 @@ fits counts. With --list there is a line for each line of standard input, and th
 them is ! REASON. With --json, beside --forms or --list, a line is an object with a member for each form,
 and beside --to with that of the form.
 
+With --schemes all words of GIAI-96, GSRNP-96, SGCN-96, CPI-96 and USDoD-96 have their tag URIs, which are
+raw URIs without it. Such a word has the forms tag and hex, and in each other form it is ! NoKey.
+
 Examples:
   $ llrp epc 3074257BF7194E4000001A85
   urn:epc:tag:sgtin-96:3.0614141.812345.6789
@@ -94,12 +98,16 @@ Reads a stream of LLRP messages on standard input, or each FILE, to its end, and
 and a line for each field of its message in the order of the frame's bits, reserved ones, heads and
 counts too: the bit at which the field begins, how many bits it has, how many levels below the message
 its parameter is, its name, and its value in decimal, or x and the octets of a tail in hexadecimal. Of a
-frame that is not a message there are the lines of its header, and the line of its first fault: its bit,
-the octet that has it, the REASON with what it says, and the octets from there on, 16 at most.
+frame that is not a message there are the lines before its first fault, those that are refused, and the
+line of the fault: its bit, the octet that has it, and the REASON with a sentence.
   ? N                        N bytes of an unfinished frame at the end
   ! BROKEN                   a length below 10, at which the stream breaks off
+A frame is printed when its last byte was read, with --hex its last digit. With --json each frame is one
+line, an object with frame, octets, fields and, where it has one, fault: docs/json.md.
 A frame of more octets than --limit is a fault, where N is 10 to 1,048,576. With --all the messages
-and parameters are those of the whole standard. The status is that of show.
+and parameters are those of the whole standard. With --only the frames whose MessageID is ID are
+printed alone, where ID is 0 to 4,294,967,295, as show lists it, in ! ID BIT REASON too; the others
+count, and print nothing. The status is that of show, of all frames.
 
 Example:
   $ echo 083E0000000A00000007 | llrp explain --hex
@@ -126,8 +134,9 @@ GET_ACCESSSPECS, as a reader that has no AccessSpecs. A script does not count th
 With --clients N it serves N clients one after another, each as a new reader by the script from its
 beginning; the exit status is the greatest of theirs. With --ready the line
   llrp: listening on ADDRESS:PORT
-stands on standard error as soon as a client can connect. --bind ADDRESS listens there; LLRP has no
-password, so let it be an address that only your own machines can reach.
+stands on standard error as soon as a client can connect, where PORT is a free one if 0 was given.
+--bind ADDRESS listens there; LLRP has no password, so let it be an address that only your own
+machines can reach.
 
 With --clock real time passes by itself, and with real*N N times as fast: KEEPALIVEs and the ends of
 ROSpecs come when they are due, and the requests of --all are answered. A script may then have lines
@@ -135,12 +144,24 @@ with a moment too, where TIME is such as 500ms or 2s:
   accepted+TIME WHAT                 this long after the connection was accepted
   started+TIME WHAT                  this long after a ROSpec first became active
   MOMENT every TIME for TIME WHAT    again and again, beginning at such a moment
-WHAT is seen ANTENNA RSSI TEXT, tick, close (the reader closes the connection) or silent TIME (it sends
-nothing for that long, and then what it has to say).
+WHAT is one of these:
+  seen ANTENNA RSSI TEXT, tick       as above
+  seen ANTENNAS RSSIS FILE           each time the next tag of a file, such as seen 1,2 -70..-50 tags.txt
+  antenna N off, antenna N on        an event of which the client hears if it asked to
+  gpi N high, gpi N low              the same of a general-purpose input
+  expect KIND within TIME            the client has to send such a message by then; else its connection
+                                     ends with llrp: expect: line L, and the status is 1
+  silent TIME                        the reader sends nothing for that long, and then what it has to say
+  octets HEX                         it sends these octets, 64 at most, whatever they are
+  send                               it sends the messages that the lines below list, as show --all does
+  cut N                              of its next message it sends N octets, and closes the connection
+  status N KIND TEXT                 its next message of that kind has the status N and this text
+  close                              it closes the connection
 
 A connection begins in version 1, and SET_PROTOCOL_VERSION changes it; a message of another version is
 refused. --answers FILE answers messages that are not in docs/tables.md: a line ? FORM, and the messages
 to answer with, as show --all lists them. FORM is a request's line there; a word * stands for any.
+With --keep a client finds the ROSpecs that the one before it left, of which none is active.
 
 Example:
   $ printf '2 5 tick\\n' | llrp sim 5084";
@@ -166,6 +187,10 @@ or with --json an object of JSON for each, a line each:
   {\"epc\":TEXT,\"antenna\":ANTENNA,\"rssi\":RSSI}   a tag; what the reader did not report is left out
   {\"report\":K}
   {\"tags\":TAGS,\"reports\":REPORTS}
+With --keys, which goes with --json, the object of a tag whose EPC has a key ends in its members, as
+  \"gtin\":\"80614141123458\",\"serial\":\"6789\"}
+With --schemes all words of GIAI-96, GSRNP-96, SGCN-96, CPI-96 and USDoD-96 have their tag URIs, which are
+raw URIs without it.
 
 A message or parameter that docs/tables.md leaves out of its set is passed over, and a report that
 has one as a whole. With --all the reader may send every message and parameter of LLRP 1.1, as makers'

@@ -1,4 +1,4 @@
-//! The labels of a listing among the arguments of a command.
+//! The labels of lines among the arguments of a command.
 
 ghost use Rattle.std.specs.Prelude.{◌≡◌, IfOk, false};
 ghost use Rattle.clap.specs.Words.{App, app_of};
@@ -20,7 +20,8 @@ pub(super) fn with_labels<'a>(
     ensures local { IfOk command.entry (λ c. (out-Command c).has_globals ≡ false)
         → IfOk result (λ c. (out-Command c).has_globals ≡ false) }
 {
-    let schemes = "The schemes of EPCs: all, which has GIAI-96 and GSRNP-96 too";
+    let schemes =
+        "The schemes of EPCs: all, which has GIAI-96, GSRNP-96, SGCN-96, CPI-96 and USDoD-96 too";
     let with_keys = with_argument(command, plan_flag(alloc, "keys", keys));
     with_argument(with_keys, text_option(alloc, "schemes", "SCHEMES", schemes))
 }

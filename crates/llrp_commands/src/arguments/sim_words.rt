@@ -11,7 +11,7 @@ use clap::ArgMatches;
 /// What the words say of a simulated reader. What an option gives is `None` if it is left out.
 #[derive(Clone, Copy, Debug, PartialEq, Eq)]
 pub struct SimWords<'a> {
-    /// The port to listen on.
+    /// The port to listen on; 0 for a free one.
     pub port: u16,
     /// Whether requests of general clients outside the profile are answered.
     pub all: bool,
@@ -25,6 +25,8 @@ pub struct SimWords<'a> {
     pub answers: Option<&'a str>,
     /// Whether it says that it listens.
     pub ready: bool,
+    /// Whether it keeps its ROSpecs from client to client.
+    pub keep: bool,
 }
 
 /// What the arguments say of `sim`.
@@ -40,5 +42,6 @@ pub(super) fn sim_words<'a>(inner: &ArgMatches<'a>) -> SimWords<'a>
         clock: optional_text(inner, "clock"),
         answers: optional_text(inner, "answers"),
         ready: inner.get_flag("ready"),
+        keep: inner.get_flag("keep"),
     }
 }

@@ -6,6 +6,7 @@ ghost use Rattle.clap.specs.declared.builder.command.Command.TheViews.{out-Comma
 ghost use Rattle.llrp_commands.specs.Calls.Arguments.{host_rule, long_count_rule, longest_rule, stop_app, watch_app, with_bounds, with_end, with_lasting, with_power, with_records, with_target};
 
 use super::commands::{count_option, number_option, plan_flag, text_option, with_argument};
+use super::label_commands::with_labels;
 use super::watch_help::{STOP_HELP, WATCH_HELP};
 use clap::{Arg, Command, value_parser};
 use llrp_tree::MAX_LIMIT;
@@ -166,7 +167,9 @@ pub(super) fn watch_command<'a>(alloc: Global) -> Result<Command<'a>, AllocError
     let messages = "Print each message of the reader as a line of JSON, in place of tags";
     let with_messages = with_argument(powered, plan_flag(alloc, "messages", messages));
     let access = "Send the messages on AccessSpecs of this file too";
-    with_argument(with_messages, text_option(alloc, "access", "FILE", access))
+    let with_access = with_argument(with_messages, text_option(alloc, "access", "FILE", access));
+    let keys = "Print the key of each EPC as members of its object, as gtin and serial";
+    with_labels(alloc, with_access, keys)
 }
 
 /// The command `stop`.

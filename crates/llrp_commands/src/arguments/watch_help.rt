@@ -10,6 +10,9 @@ With --text the lines are
   TEXT ANTENNA RSSI TIME   a tag, as inventory prints it, and that time
 With --messages they are not of tags: each message of the reader, and the fault of each frame that is no
 message, is a line as show --json --all prints it with the same --limit. It cannot be given with --text.
+With --keys the object of a tag whose EPC has a key ends in its members, as for inventory, and with
+--schemes all words of GIAI-96, GSRNP-96, SGCN-96, CPI-96 and USDoD-96 have their tag URIs. --keys cannot
+be given with --text, and neither of them with --messages.
 The reader may send every message and parameter of LLRP 1.1, as makers' Custom ones; what docs/tables.md
 leaves out of its set is left out.
 

@@ -7,6 +7,7 @@ ghost use Rattle.llrp_commands.specs.Calls.Arguments.{HasNumber, HasOptionalNumb
 ghost use Rattle.llrp_tree.specs.declared.TheConstants.{MAX_LIMIT};
 ghost use Rattle.std.specs.Int.{IsInRange};
 
+use super::label_words::{LabelWords, label_words};
 use super::{optional_number, optional_text};
 use clap::ArgMatches;
 
@@ -43,6 +44,8 @@ pub struct WatchWords<'a> {
     pub messages: bool,
     /// The path of the file with messages on AccessSpecs.
     pub access: Option<&'a str>,
+    /// The labels of the lines of tags.
+    pub labels: LabelWords<'a>,
 }
 
 /// What the words say of a ROSpec that is to be deleted.
@@ -107,6 +110,7 @@ pub(super) fn watch_words<'a>(inner: &ArgMatches<'a>) -> WatchWords<'a>
         power: optional_text(inner, "power"),
         messages: inner.get_flag("messages"),
         access: optional_text(inner, "access"),
+        labels: label_words(inner),
     }
 }
 

@@ -11,7 +11,9 @@ use Rattle.llrp_tree.specs.Tree.{MessageTree}
 use Rattle.llrp_stream.specs.declared.item.Item.{Item}
 use Rattle.llrp_stream.specs.declared.item.Item.TheVariants.{Msg, Bad}
 use Rattle.llrp_session.specs.Calls.Answers.{answer_of}
+use Rattle.llrp_session.specs.Calls.SideEvents.{notified, having_notified}
 use Rattle.llrp_session.specs.Reading.{request_of}
+use Rattle.llrp_session.specs.declared.reader.side_events.SideEvent.{SideEvent}
 use Rattle.llrp_session.specs.ReaderMachine.{Reader, ReaderEvent, Take, TakeBad, next}
 use Rattle.llrp_versions.specs.declared.version.Version.{Version as TheVersion}
 use Rattle.llrp_versions.specs.Calls.Versions.{Heard, InUse, Other, Answered, hear}
@@ -22,10 +24,11 @@ use Rattle.llrp_endpoints.specs.Serving.{said, turn_or_none}
 
 -- ---- what is done for an item
 
--- messages are sent, or an event happens to the reader
+-- messages are sent, an event happens to the reader's machine, or something happens beside that
 pub data Doing : Type 0 where
   Answers : (replies : List MessageTree) → Doing
   Happens : (event : ReaderEvent) → Doing
+  Notes : (event : SideEvent) → Doing
 
 -- the profile has the kind
 abbrev pub is_inside : MsgKind → Bool
@@ -83,6 +86,7 @@ agreed v (item ∷ items) = agreed (next_version v item) items
 abbrev pub comes_in : Doing → Bool
 comes_in (Answers replies) = false
 comes_in (Happens event) = true
+comes_in (Notes event) = false
 
 -- the item is CLOSE_CONNECTION
 abbrev pub closes : Item → Bool
@@ -105,6 +109,7 @@ pub record Outcome : Type 0 where
 abbrev pub once : Reader → Dated → Doing → Outcome
 once r d (Answers replies) = record { said = replies; reader = r }
 once r d (Happens event) = record { said = said (turn_or_none r (next d.now event r)); reader = (turn_or_none r (next d.now event r)).reader }
+once r d (Notes event) = record { said = notified r.phase d.now event r; reader = having_notified r.phase r }
 
 -- of doings one after another
 abbrev pub course : Reader → List Dated → Outcome

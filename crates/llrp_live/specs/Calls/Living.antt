@@ -68,8 +68,9 @@ pub record GoesOn (now : ℕ) (piece : List ℕ) (b : Begun) (before : List Date
   pub said : out1 ≡ out0 ++ (course old.core (taken_after now b items more)).said
   pub lives : Lives b (before ++ taken_after now b items more) (bytes ++ piece) (items ++ more) new
 
--- The items up to the first that closes the connection were taken; what follows it in the piece is dropped.
-pub record HasClosed (now : ℕ) (piece : List ℕ) (b : Begun) (bytes : List ℕ) (items : List Item) (old : LiveReader) (out0 out1 : List MessageTree) : Type 0 where
+-- The items up to the first that closes the connection were taken; what follows it in the piece is dropped. In what is said of
+-- an end, too, the reader is what all that was done made of it.
+pub record HasClosed (now : ℕ) (piece : List ℕ) (b : Begun) (before : List Dated) (bytes : List ℕ) (items : List Item) (old new : LiveReader) (out0 out1 : List MessageTree) : Type 0 where
   pub front : List ℕ
   pub later : List ℕ
   pub more : List Item
@@ -79,18 +80,20 @@ pub record HasClosed (now : ℕ) (piece : List ℕ) (b : Begun) (bytes : List �
   pub closing : closes last ≡ true
   pub are : ItemsSoFarIn Standard b.reader.limit (bytes ++ front) (items ++ (more ++ last ∷ [])) []
   pub said : out1 ≡ out0 ++ (course old.core (taken_after now b items (more ++ last ∷ []))).said
+  pub reader_is : new.core ≡ (course b.reader (before ++ taken_after now b items (more ++ last ∷ []))).reader
 
 -- The items before the break were taken, and what is said to them appended.
-pub record IsBroken (now : ℕ) (piece : List ℕ) (b : Begun) (bytes : List ℕ) (items : List Item) (old : LiveReader) (out0 out1 : List MessageTree) : Type 0 where
+pub record IsBroken (now : ℕ) (piece : List ℕ) (b : Begun) (before : List Dated) (bytes : List ℕ) (items : List Item) (old new : LiveReader) (out0 out1 : List MessageTree) : Type 0 where
   pub more : List Item
   pub rest : List ℕ
   pub none : NoneCloses more
   pub are : ItemsSoFarIn Standard b.reader.limit (bytes ++ piece) (items ++ more) rest
   pub breaks : Breaks rest
   pub said : out1 ≡ out0 ++ (course old.core (taken_after now b items more)).said
+  pub reader_is : new.core ≡ (course b.reader (before ++ taken_after now b items more)).reader
 
 -- Some first items that end in the piece were taken, and what is said to them appended, before memory ran out.
-pub record RanOut (now : ℕ) (piece : List ℕ) (b : Begun) (bytes : List ℕ) (items : List Item) (old : LiveReader) (out0 out1 : List MessageTree) : Type 0 where
+pub record RanOut (now : ℕ) (piece : List ℕ) (b : Begun) (before : List Dated) (bytes : List ℕ) (items : List Item) (old new : LiveReader) (out0 out1 : List MessageTree) : Type 0 where
   pub front : List ℕ
   pub later : List ℕ
   pub more : List Item
@@ -98,18 +101,19 @@ pub record RanOut (now : ℕ) (piece : List ℕ) (b : Begun) (bytes : List ℕ) 
   pub parts : piece ≡ front ++ later
   pub are : ItemsSoFarIn Standard b.reader.limit (bytes ++ front) (items ++ more) rest
   pub said : out1 ≡ out0 ++ (course old.core (taken_after now b items more)).said
+  pub reader_is : new.core ≡ (course b.reader (before ++ taken_after now b items more)).reader
 
 -- an end by an error
-abbrev pub Fails : ℕ → List ℕ → Begun → List ℕ → List Item → LiveReader → List MessageTree → List MessageTree → ToolErr → Type 0
-Fails now piece b bytes items old out0 out1 Broken = IsBroken now piece b bytes items old out0 out1
-Fails now piece b bytes items old out0 out1 Memory = RanOut now piece b bytes items old out0 out1
-Fails now piece b bytes items old out0 out1 _ = ⊥
+abbrev pub Fails : ℕ → List ℕ → Begun → List Dated → List ℕ → List Item → LiveReader → LiveReader → List MessageTree → List MessageTree → ToolErr → Type 0
+Fails now piece b before bytes items old new out0 out1 Broken = IsBroken now piece b before bytes items old new out0 out1
+Fails now piece b before bytes items old new out0 out1 Memory = RanOut now piece b before bytes items old new out0 out1
+Fails now piece b before bytes items old new out0 out1 _ = ⊥
 
 -- what a piece makes of it: it goes on, the client closed the connection, or it ended by an error
 abbrev pub Goes : ℕ → List ℕ → Begun → List Dated → List ℕ → List Item → LiveReader → LiveReader → List MessageTree → List MessageTree → Result Bool ToolErr → Type 0
 Goes now piece b before bytes items old new out0 out1 (Ok false) = GoesOn now piece b before bytes items old new out0 out1
-Goes now piece b before bytes items old new out0 out1 (Ok true) = HasClosed now piece b bytes items old out0 out1
-Goes now piece b before bytes items old new out0 out1 (Err error) = Fails now piece b bytes items old out0 out1 error
+Goes now piece b before bytes items old new out0 out1 (Ok true) = HasClosed now piece b before bytes items old new out0 out1
+Goes now piece b before bytes items old new out0 out1 (Err error) = Fails now piece b before bytes items old new out0 out1 error
 
 -- whatever came before, it took this piece so
 abbrev pub Feeds : ℕ → List ℕ → LiveReader → LiveReader → List MessageTree → List MessageTree → Result Bool ToolErr → Type 0

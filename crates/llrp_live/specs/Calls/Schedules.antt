@@ -1,20 +1,14 @@
 -- Which line of a script is due at a moment. Moments are in microseconds.
-use Rattle.std.specs.Prelude.{◌≡◌, ℕ, ◌+◌, ◌-◌, ◌<◌, ◌≤◌, ◌==◌, min, nat_lt, Bool, false, List, [], ◌∷◌, ◌++◌, length, Option, Some, None, IfSome, if◌then◌else◌}
+use Rattle.std.specs.Prelude.{◌≡◌, ℕ, ◌+◌, ◌-◌, ◌<◌, ◌≤◌, ◌==◌, nat_lt, Bool, false, List, [], ◌∷◌, ◌++◌, length, Option, Some, None, IfSome, if◌then◌else◌}
 use Rattle.llrp_live.specs.declared.moments.Stage.{Stage}
 use Rattle.llrp_live.specs.declared.moments.When.{When}
 use Rattle.llrp_live.specs.declared.moments.When.TheVariants.{Frames, Accepted, Started}
 use Rattle.llrp_live.specs.declared.lines.Line.{Line}
 use Rattle.llrp_live.specs.declared.lines.Again.{Again}
-use Rattle.llrp_live.specs.declared.lines.Deed.{Deed}
+use Rattle.llrp_session.specs.Calls.Due.{sooner}
 use Rattle.llrp_live.specs.Calls.Moments.{moment_of, later}
 
 -- ---- the next moment
-
--- the sooner of two moments, if there are any
-abbrev pub sooner : Option ℕ → Option ℕ → Option ℕ
-sooner None b = b
-sooner (Some a) None = Some a
-sooner (Some a) (Some b) = Some (min a b)
 
 -- when the next of these lines happens, as far as that is known
 abbrev pub next_moment : Stage → List Line → Option ℕ
@@ -46,10 +40,10 @@ abbrev pub again_with : Line → Option Again → Option Line
 again_with line None = None
 again_with line (Some again) =
     if nat_lt again.period again.left
-    then Some (record { when = put_off line.when again.period; again = Some (record { period = again.period; left = again.left - again.period }); deed = line.deed })
+    then Some (record { number = line.number; when = put_off line.when again.period; again = Some (record { period = again.period; left = again.left - again.period; done = later again.done 1 }); deed = line.deed })
     else None
 
--- the line as it waits once more: a period later, while its time is not over
+-- the line as it waits once more: a period later, while its time is not over, having happened once more
 abbrev pub again_of : Line → Option Line
 again_of line = again_with line line.again
 
@@ -62,9 +56,8 @@ listed (Some line) = line ∷ []
 
 -- The line that is due was taken out: its moment is the next one and has come, and no line before it happens at that moment.
 -- Where it happens again, it waits once more in its place.
-pub record TakesDue (now : ℕ) (s : Stage) (old new : List Line) (deed : Deed) : Type 0 where
+pub record TakesDue (now : ℕ) (s : Stage) (old new : List Line) (line : Line) : Type 0 where
   pub before : List Line
-  pub line : Line
   pub after : List Line
   pub moment : ℕ
   pub next : next_moment s old ≡ Some moment
@@ -72,7 +65,6 @@ pub record TakesDue (now : ℕ) (s : Stage) (old new : List Line) (deed : Deed) 
   pub first : length before ≡ before_first s moment old
   pub parts : old ≡ before ++ line ∷ after
   pub left : new ≡ before ++ (listed (again_of line) ++ after)
-  pub deed_is : deed ≡ line.deed
 
 -- no line is due: the next moment is not known, or later
 abbrev pub NoneIsDue : ℕ → Stage → List Line → Type 0

@@ -1,5 +1,3 @@
-use Rattle.std.proofs.Common.{subst}
-use Rattle.llrp_schema.specs.declared.kinds.KindSet.{KindSet}
 use Rattle.llrp.proofs.PlanLemmas.{plan_read}
 use Rattle.llrp.proofs.plan.read_plan.Goals as goal
 

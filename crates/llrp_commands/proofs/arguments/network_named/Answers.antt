@@ -126,6 +126,7 @@ returns-clause-command c =
       c.optional_number.ensures c.args.name.now,
       c.longest.ensures.number c.args.name.now,
       reads_flag _ c.get_flag.result (has_flag _ c.get_flag.result (λ h. c.get_flag.ensures.none (verbose ∙ h)) (λ h. c.get_flag.ensures.value (verbose ∙ h)) (λ h. c.get_flag.ensures.other (verbose ∙ h))) there.4,
+      (reads_flag _ c.label_words.result.keys (c.label_words.ensures c.args.name.now).0 there.5, (c.label_words.ensures c.args.name.now).1),
     )
 
 pub longest-requires : goal.longest-requires

@@ -28,7 +28,7 @@ returns-then-eq-2-clause-request c =
       c.limit.ensures.number c.args.name.now,
       c.optional_text.ensures c.args.name.now,
       c.label_words.ensures c.args.name.now,
-      c.optional_text-then-eq-2.ensures c.args.name.now,
+      c.segment_words.ensures c.args.name.now,
     )
 
 pub returns-then-eq-3-clause-request : goal.returns-then-eq-3-clause-request
@@ -77,14 +77,22 @@ pub returns-then-eq-5-clause-request : goal.returns-then-eq-5-clause-request
 returns-then-eq-5-clause-request c =
     let rows = one_text-rows (found_of c.args.inner.now) (codes "hex") in
     let kinds = one_text-rows (found_of c.args.inner.now) (codes "all") in
+    let form = one_text-rows (found_of c.args.inner.now) (codes "json") in
     let named : c.args.name.now ≡ codes "explain" = search rules in (
       ap (λ (n : Text). Some n) named,
       has_flag _ c.get_flag-then-eq-5.result (λ h. c.get_flag-then-eq-5.ensures.none (rows ∙ h)) (λ h. c.get_flag-then-eq-5.ensures.value (rows ∙ h)) (λ h. c.get_flag-then-eq-5.ensures.other (rows ∙ h)),
       has_flag _ c.get_flag-then-eq-5-2.result (λ h. c.get_flag-then-eq-5-2.ensures.none (kinds ∙ h)) (λ h. c.get_flag-then-eq-5-2.ensures.value (kinds ∙ h)) (λ h. c.get_flag-then-eq-5-2.ensures.other (kinds ∙ h)),
+      has_flag _ c.get_flag-then-eq-5-3.result (λ h. c.get_flag-then-eq-5-3.ensures.none (form ∙ h)) (λ h. c.get_flag-then-eq-5-3.ensures.value (form ∙ h)) (λ h. c.get_flag-then-eq-5-3.ensures.other (form ∙ h)),
       c.limit-then-eq-5.ensures.number c.args.name.now,
+      c.only_id.ensures c.args.name.now,
     )
 
 pub limit-requires-then-eq-5 : goal.limit-requires-then-eq-5
 limit-requires-then-eq-5 c =
     let named : c.args.name.now ≡ codes "explain" = search rules in
-    (explain_there c.args.name.now (rows_of (found_of c.args.inner.now)) c.requires named).2
+    (explain_there c.args.name.now (rows_of (found_of c.args.inner.now)) c.requires named).0.2
+
+pub only_id-requires : goal.only_id-requires
+only_id-requires c =
+    let named : c.args.name.now ≡ codes "explain" = search rules in
+    (explain_there c.args.name.now (rows_of (found_of c.args.inner.now)) c.requires named).1

@@ -13,8 +13,9 @@ returns c = λ words parsed named.
       list.0,
       json.0,
       word_in (codes "to") (command_in words),
+      word_in (codes "schemes") (command_in words),
       count.0,
       filter.0,
       word_in (codes "prefixes") (command_in words),
-      record { parsed = parsed; named = named; given = refl; all = forms.1; lines = list.1; object = json.1; form = refl; digits = count.1; value = filter.1; table = refl },
+      record { parsed = parsed; named = named; given = refl; all = forms.1; lines = list.1; object = json.1; form = refl; set = refl; digits = count.1; value = filter.1; table = refl },
     )

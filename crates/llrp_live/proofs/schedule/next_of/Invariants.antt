@@ -1,5 +1,6 @@
 use Rattle.std.proofs.Common.{◌≡◌, drop}
-use Rattle.llrp_live.specs.Calls.Schedules.{next_moment, sooner}
+use Rattle.llrp_session.specs.Calls.Due.{sooner}
+use Rattle.llrp_live.specs.Calls.Schedules.{next_moment}
 use Rattle.llrp_live.proofs.schedule.next_of.Given as goal
 
 abbrev pub invariant-loop-line : goal.invariant-loop-line

@@ -1,6 +1,3 @@
-use Rattle.std.proofs.Common.{subst, List, ℕ}
-use Rattle.std.specs.Io.KnownBytes.{Appends}
-use Rattle.llrp_json.specs.Calls.PieceLines.{ListsPiece}
 use Rattle.llrp.proofs.WatchLemmas.{prints_messages}
 use Rattle.llrp.proofs.message_printer.MessagePrinterWatcher.turn.Goals as goal
 

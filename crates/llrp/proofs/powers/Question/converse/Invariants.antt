@@ -1,5 +1,4 @@
 use Rattle.std.proofs.Common.{◌≡◌, ◌-◌, List, ℕ}
-use Rattle.llrp_stream.specs.Device.{SinkLog}
 use Rattle.llrp_listing.specs.Calls.Copying.{Given}
 use Rattle.llrp_listing.specs.declared.devices.TheConstants.{MOST_READS}
 use Rattle.llrp.proofs.powers.Question.converse.Given as goal

@@ -18,4 +18,5 @@ returns-clause-words c = λ name.
       c.company_digits.ensures.number name,
       c.filter.ensures.number name,
       c.optional_text-3.ensures name,
+      c.optional_text-4.ensures name,
     )

@@ -2,7 +2,7 @@ use Rattle.std.proofs.Common.{ap, codes, ◌≡◌, ◌∙◌}
 use Rattle.clap.specs.Words.{Rule, app_of, new_app, with_rule}
 use Rattle.clap.specs.Simple.{app_of_fields}
 use Rattle.std.proofs.lemmas.Result.{IfOk-weaker}
-use Rattle.llrp_commands.specs.Calls.Arguments.{flag_rule, watch_app, with_bounds, with_end, with_lasting, with_power, with_records, with_target}
+use Rattle.llrp_commands.specs.Calls.Arguments.{flag_rule, text_option_rule, with_bounds, with_end, with_lasting, with_power, with_records, with_target}
 use Rattle.llrp_commands.proofs.arguments.watch_commands.watch_command.Goals as goal
 
 pub returns-clause-app : goal.returns-clause-app
@@ -14,6 +14,9 @@ returns-clause-app c =
     IfOk-weaker c.with_argument-with_messages.result _ (λ r. app_of r ≡ with_rule powered_app (flag_rule (codes "messages")))
     (λ r h. h ∙ ap (λ (rule : Rule). with_rule powered_app rule) c.plan_flag.ensures.rule)
     (c.with_argument-with_messages.ensures.app _ powered c.plan_flag.ensures.local) in
-    IfOk-weaker c.with_argument.result _ (λ r. app_of r ≡ watch_app)
-    (λ r h. h ∙ ap (λ (rule : Rule). with_rule (with_rule powered_app (flag_rule (codes "messages"))) rule) c.text_option.ensures.rule)
-    (c.with_argument.ensures.app _ with_messages c.text_option.ensures.local)
+    let messages_app = with_rule powered_app (flag_rule (codes "messages")) in
+    let with_access =
+    IfOk-weaker c.with_argument-with_access.result _ (λ r. app_of r ≡ with_rule messages_app (text_option_rule (codes "access")))
+    (λ r h. h ∙ ap (λ (rule : Rule). with_rule messages_app rule) c.text_option.ensures.rule)
+    (c.with_argument-with_access.ensures.app _ with_messages c.text_option.ensures.local) in
+    c.with_labels.ensures.app _ with_access

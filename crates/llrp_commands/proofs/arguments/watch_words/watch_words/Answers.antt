@@ -25,4 +25,5 @@ returns-clause-words c = λ name.
       c.optional_text-5.ensures name,
       reads_flag _ c.get_flag-3.result (has_flag _ c.get_flag-3.result (λ h. c.get_flag-3.ensures.none (messages ∙ h)) (λ h. c.get_flag-3.ensures.value (messages ∙ h)) (λ h. c.get_flag-3.ensures.other (messages ∙ h))) c.requires.8,
       c.optional_text-6.ensures name,
+      (reads_flag _ c.label_words.result.keys (c.label_words.ensures name).0 c.requires.9, (c.label_words.ensures name).1),
     )

@@ -11,8 +11,9 @@ loop-rest-init c = λ b before bytes items h. so_far_none c.args.now c.args.piec
 
 pub returns-in-Err : goal.returns-in-Err
 returns-in-Err c = λ b before bytes items h.
+    let new : LiveReader = record { alloc = c.loop-rest.self.alloc; core = c.loop-rest.self.core; decoder = c.feed.new.self; phase = c.loop-rest.self.phase; taken = c.loop-rest.self.taken; answers = c.loop-rest.self.answers; version = c.loop-rest.self.version } in
     failed c.args.now c.args.piece.now c.loop-rest.rest.now b before bytes items c.args.self.now c.loop-rest.self c.args.out.now.items c.loop-rest.out.items (c.loop-rest.invariant b before bytes items h)
-    c.feed.new.self c.in-Err.error c.error_of.result c.in-Err.ensures.stands_in c.error_of.ensures
+    new c.feed.new.self c.in-Err.error c.error_of.result refl c.in-Err.ensures.stands_in c.error_of.ensures
 
 pub returns-in_default : goal.returns-in_default
 returns-in_default c = λ b before bytes items h.
@@ -23,12 +24,13 @@ returns-in_default c = λ b before bytes items h.
 pub returns-in_err-taken : goal.returns-in_err-taken
 returns-in_err-taken c = λ b before bytes items h.
     let p = err_from_is_err_and c.from_residual.result c.from_residual.ensures.1 in
+    let new : LiveReader = record { alloc = c.loop-rest.self.alloc; core = c.take.new.core; decoder = c.feed.new.self; phase = c.loop-rest.self.phase; taken = c.loop-rest.self.taken; answers = c.loop-rest.self.answers; version = c.loop-rest.self.version } in
     rw (p.1, p.2) (out_of_memory c.args.now c.args.piece.now c.loop-rest.rest.now b before bytes items c.args.self.now c.loop-rest.self c.args.out.now.items c.loop-rest.out.items (c.loop-rest.invariant b before bytes items h)
-    c.in-Ok.fed c.in-Some.item c.feed.new.self c.in-Ok.ensures.stands_in c.in-Some.is c.loop-rest.self c.take.new.out.items c.in_err-taken.ensures.out_unchanged)
+    c.in-Ok.fed c.in-Some.item c.feed.new.self c.in-Ok.ensures.stands_in c.in-Some.is new c.take.new.out.items c.in_err-taken.ensures.core_unchanged c.in_err-taken.ensures.out_unchanged)
 
 pub returns-then-closing : goal.returns-then-closing
 returns-then-closing c = λ b before bytes items h.
-    let new : LiveReader = record { alloc = c.loop-rest.self.alloc; core = c.take.new.core; decoder = c.feed.new.self; phase = c.loop-rest.self.phase; taken = c.loop-rest.self.taken; answers = c.loop-rest.self.answers; version = c.loop-rest.self.version } in
+    let new : LiveReader = record { alloc = c.loop-rest.self.alloc; core = c.take.new.core; decoder = c.feed.new.self; phase = c.loop-rest.self.phase; taken = c.count_more-self.result; answers = c.loop-rest.self.answers; version = c.in_ok-taken.taken.version } in
     closed c.args.now c.args.piece.now c.loop-rest.rest.now b before bytes items c.args.self.now c.loop-rest.self c.args.out.now.items c.loop-rest.out.items (c.loop-rest.invariant b before bytes items h)
     c.in-Ok.fed c.in-Some.item c.feed.new.self c.in-Ok.ensures.stands_in c.in-Some.is new c.take.new.out.items c.in_ok-taken.ensures.ok (sym c.closes-closing.ensures ∙ c.if-closing.true)
 

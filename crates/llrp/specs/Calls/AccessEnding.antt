@@ -1,0 +1,39 @@
+-- How `access` operates on a tag over a socket, and how it ends; std's contracts say neither what a socket has left to read nor what it took.
+use Rattle.std.specs.Prelude.{◌≡◌, ℕ, List, [], None, codes}
+use Rattle.llrp_stream.specs.Device.{SourceLog, SinkLog, Wrote}
+use Rattle.llrp_stream.specs.Calls.Device.{new_sink, new_source}
+use Rattle.llrp_listing.specs.declared.outcome.ToolErr.TheVariants.{Peer}
+use Rattle.llrp_commands.specs.Calls.Command.{error_line, error_status}
+use Rattle.llrp_operations.specs.declared.access.Ending.{Ending}
+use Rattle.llrp_operations.specs.declared.access.Ending.TheVariants.{Done, Undone, Refused, Several, NoTag, Unknown, Broken}
+use Rattle.llrp_operations.specs.declared.access.Errand.{Errand}
+use Rattle.llrp_operations.specs.Calls.Access.{Accesses}
+
+-- A client operated so, over a source and a sink of which nothing was read or written before. These are the logs of what it prints.
+abbrev pub AccessesReader : Errand → SinkLog → SinkLog → Ending → Type 0
+AccessesReader e p0 p1 end = (source : SourceLog) × (sink : SinkLog) × Accesses e (new_source None) source (new_sink None) sink p0 p1 end
+
+-- the exit status
+abbrev pub ending_status : Ending → ℕ
+ending_status Done = 0
+ending_status Undone = 1
+ending_status (Refused status) = 1
+ending_status Several = 1
+ending_status NoTag = 1
+ending_status Unknown = 4
+ending_status (Broken cause) = error_status cause
+
+-- the line on standard error
+abbrev pub ending_line : Ending → List ℕ
+ending_line Done = []
+ending_line Undone = codes "llrp: not done\n"
+ending_line (Refused status) = error_line (Peer status)
+ending_line Several = codes "llrp: several tags\n"
+ending_line NoTag = codes "llrp: no tag\n"
+ending_line Unknown = codes "llrp: unknown, read again\n"
+ending_line (Broken cause) = error_line cause
+
+-- the line was written, and this is the status
+pub record SaysEnding (end : Ending) (e0 e1 : SinkLog) (status : ℕ) : Type 0 where
+  pub line : Wrote e0 e1 (ending_line end)
+  pub status_is : status ≡ ending_status end

@@ -1,0 +1,10 @@
+pub mod ActingLemmas
+pub mod DueLemmas
+pub mod FrameLemmas
+pub mod ItemLemmas
+pub mod LocatedLemmas
+pub mod PartLemmas
+pub mod PieceLemmas
+pub mod ServeLemmas
+pub mod StepLemmas
+pub mod TakeLemmas

@@ -1,0 +1,3 @@
+-- What public contracts say that no promise of README rests on.
+pub mod Located
+pub mod Serving

@@ -1,0 +1,105 @@
+//! Serves one general client by a script.
+
+ghost use Rattle.std.specs.Prelude.{◌≡◌, ◌++◌, List, OnOk, ℕ};
+ghost use Rattle.llrp_tree.specs.Tree.{MessageTree};
+ghost use Rattle.llrp_stream.specs.Calls.Device.{CanWrite};
+ghost use Rattle.llrp_stream.specs.Device.{IsFreshSink, IsFreshSource};
+ghost use Rattle.llrp_general.specs.Calls.Serving.{RunsServeWhole, Setting, setting};
+ghost use Rattle.llrp_general.specs.Private.Standing.{Begun, IsFresh, Stands, Taken, answer_of as the_answer_of, left_by};
+
+use crate::frames::say;
+use crate::serving::{Going, WholeReader};
+use llrp_answers::Answers;
+use llrp_endpoints::Script;
+use llrp_listing::{Pieces, ToolErr};
+use llrp_session::Reader;
+use llrp_stream::{Sink, Source};
+use std::alloc::Global;
+
+/// Whether the client closed the connection, after a piece after which it goes so.
+fn answer_of(going: Going) -> Result<bool, ToolErr>
+    ensures { result ≡ the_answer_of going }
+{
+    match going {
+        Going::On => Ok(false),
+        Going::Closed => Ok(true),
+        Going::Broken => Err(ToolErr::Broken),
+    }
+}
+
+/// Lets the client connect, and writes what is sent before any octets came.
+fn begin<W: Sink>(server: &mut WholeReader, w: &mut W) -> Result<(), ToolErr>
+    requires { CanWrite (W.log w.old) }
+    ensures begins { (s : Setting) → IsFresh s server.old
+        → Begun s server.new (W.log w.old) (W.log w.new) result }
+    ensures can { OnOk result (CanWrite (W.log w.new)) }
+{
+    let alloc = server.alloc();
+    let mut sent = Vec::new(alloc);
+    server.start(&mut sent)?;
+    say(alloc, sent.as_slice(), w)
+}
+
+/// Takes a piece of the client's octets, and writes what is sent to it. Returns whether the client
+/// closed the connection. The errors are `Broken` at a length field below 10, `Memory` and `Write`.
+fn take_piece<W: Sink>(server: &mut WholeReader, piece: &[u8], w: &mut W) -> Result<bool, ToolErr>
+    requires { CanWrite (W.log w.old) }
+    ensures takes { (s : Setting) (bytes : List ℕ) (messages : List MessageTree)
+        → Stands s bytes messages server.old
+        → Taken s (bytes ++ piece.now) messages server.new (W.log w.old) (W.log w.new) result }
+    ensures can { OnOk result (CanWrite (W.log w.new)) }
+{
+    let alloc = server.alloc();
+    let mut sent = Vec::new(alloc);
+    let going = server.feed(piece, &mut sent)?;
+    say(alloc, sent.as_slice(), w)?;
+    answer_of(going)
+}
+
+/// Serves a client by a reader before its client came.
+fn serve<R: Source, W: Sink>(server: &mut WholeReader, r: &mut R, w: &mut W) -> Result<(), ToolErr>
+    requires source { IsFreshSource (R.log r.old) }
+    requires sink { IsFreshSink (W.log w.old) }
+    ensures { (s : Setting) → IsFresh s server.old → (bytes : List ℕ)
+        × RunsServeWhole s (left_by server.new) (R.log r.old) (R.log r.new) (W.log w.old)
+        (W.log w.new) bytes result }
+{
+    begin(server, w)?;
+    let mut pieces = Pieces::new();
+    while let Some(piece) = pieces.next(r)? {
+        if take_piece(server, piece, w)? {
+            return Ok(());
+        }
+    }
+    server.finish()
+}
+
+/// Serves the client whose octets the source gives, and writes what a simulated reader of the whole
+/// standard sends to it, acting by the script, to the sink; that for what was read is written before
+/// the next read. Requests about versions are answered, a message of another version than that in use
+/// is refused, and of messages that the profile does not have some are answered by these answers and
+/// some by themselves; none of these comes to the reader, so the script does not count them. Of every
+/// other message the reader takes what the profile has of it. Where it refuses one, and where a frame is no
+/// message, the LLRPStatus says which field or parameter it is.
+///
+/// It ends well once the client closed the connection, or if the source ends after a whole frame. The
+/// error is `Early` if the source ends within a frame, and `Broken` at a length field below 10. After
+/// `Read`, `Write`, `Bound` or `Memory`, some first part of what the reader sends was written. Returns
+/// also the reader as the client leaves it to the next one, however that ended.
+pub fn run_serve_whole<R: Source, W: Sink>(
+    alloc: Global,
+    core: Reader,
+    script: Script,
+    answers: Answers,
+    r: &mut R,
+    w: &mut W,
+) -> (Result<(), ToolErr>, Reader)
+    requires source { IsFreshSource (R.log r.old) }
+    requires sink { IsFreshSink (W.log w.old) }
+    ensures { (bytes : List ℕ) × RunsServeWhole (setting core answers.pairs.items script) result.1
+        (R.log r.old) (R.log r.new) (W.log w.old) (W.log w.new) bytes result.0 }
+{
+    let mut server = WholeReader::new(alloc, core, script, answers);
+    let outcome = serve(&mut server, r, w);
+    (outcome, server.into_reader())
+}
