@@ -1,7 +1,8 @@
 //! A listener that does nothing.
 
 use llrp_schema::{Field, MsgKind, ParamKind, Tail};
-use llrp_stream::Listener;
+use llrp_stream::{Listener, Stopped};
+use llrp_tree::Fault;
 use std::alloc::AllocError;
 
 #[derive(Drop)]
@@ -15,6 +16,8 @@ impl Listener for Silent {
     ghost stands = { λ self was t. Unit {0} };
 
     ghost ends = { λ self was m now. Unit {0} };
+
+    ghost faulty = { λ self was t octets fault. Unit {0} };
 
     fn message(
         &mut self,
@@ -56,6 +59,10 @@ impl Listener for Silent {
 
     fn end(&mut self) -> Result<(), AllocError> {
         Ok(())
+    }
+
+    fn fault(&mut self, _fault: Fault, _stopped: Option<Stopped>, _octets: &[u8]) {
+        self.give_up();
     }
 
     fn give_up(&mut self) {}

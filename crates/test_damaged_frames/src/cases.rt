@@ -99,8 +99,8 @@ pub fn cuts(rt: &HostRuntime, set: KindSet, frame: &[u8]) -> Result<()> {
     Ok(())
 }
 
-/// Reads a stream with the octet at a place changed to each other value, and returns how many of these streams hold
-/// messages alone.
+/// Reads a stream with the octet at a place changed to each other value, and returns how many of these
+/// streams hold messages alone.
 fn changes_at(rt: &HostRuntime, set: KindSet, stream: &mut Vec<u8>, place: usize) -> Result<u32> {
     let Some(octet) = stream.as_slice().get(place).copied() else {
         return Ok(0);

@@ -1,9 +1,9 @@
-//! What tests share: sources that give little a call, sinks that take little or have little room, each of which can fail in one
-//! call, a script of three sightings, and octets as texts.
+//! What tests share: sources that give little a call, sinks that take little or have little room, each of
+//! which can fail in one call, a script of three sightings, and octets as texts.
 //!
-//! Use it in tests of calls over a source and a sink. [`Pieces`] gives a stream in pieces of one length after a first piece, and
-//! [`Room`] takes what fits into a fixed size; [`Dripping`] and [`Taking`] move one octet a call and [`Lines`] a line, and fail in
-//! the n-th.
+//! Use it in tests of calls over a source and a sink. [`Pieces`] gives a stream in pieces of one length after
+//! a first piece, and [`Room`] takes what fits into a fixed size; [`Dripping`] and [`Taking`] move one octet
+//! a call and [`Lines`] a line, and fail in the n-th.
 #![tactic(auto)]
 
 mod sightings;

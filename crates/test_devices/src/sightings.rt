@@ -1,4 +1,5 @@
-//! Three sightings that a simulated reader reports, as `examples/inventory.script` has them, and what an inventory prints of them.
+//! Three sightings that a simulated reader reports, as `examples/inventory.script` has them, and what an
+//! inventory prints of them.
 
 /// The script: once the reader took three messages, it sees a tag at 1,000, 2,000 and 3,000 microseconds.
 pub const THREE_SIGHTINGS: &[u8] = b"3 1000 seen 1 -60 urn:epc:tag:sgtin-96:3.0614141.812345.6789\n\

@@ -1,4 +1,4 @@
-//! Sinks that take little a call, or have room for so much.
+//! Sinks that take little in a call, or have room for a fixed number of octets.
 
 ghost use Rattle.std.specs.Prelude.{◌≡◌, [], IfOk, None, Some};
 ghost use Rattle.llrp_stream.specs.Calls.Device.{new_sink};

@@ -1,4 +1,4 @@
-//! Sources that give little a call.
+//! Sources that give little in a call.
 
 ghost use Rattle.std.specs.Prelude.{◌≡◌, None};
 ghost use Rattle.llrp_stream.specs.Calls.Device.{new_source};
@@ -131,7 +131,8 @@ pub struct Pieces<'a> {
 }
 
 impl<'a> Pieces<'a> {
-    /// A source of these octets, which nothing was read from; the first piece has `first` of them, and each later one `later`.
+    /// A source of these octets, which nothing was read from; the first piece has `first` of them, and each
+    /// later one `later`.
     pub fn new(rest: &'a [u8], first: usize, later: usize) -> Pieces<'a>
         ensures { ⟦<Pieces<'a> as Source>⟧.log result ≡ new_source None }
     {

@@ -9,11 +9,13 @@ use std::alloc::Global;
 use std::test::*;
 use test_devices::are_spelled;
 
-/// A pair for a maker's "enable extensions": vendor 25882, subtype 21, answered by subtype 22 with LLRPStatus 0 (parameter 287).
+/// A pair for a maker's "enable extensions": vendor 25882, subtype 21, answered by subtype 22 with LLRPStatus
+/// 0 (parameter 287).
 const EXTENSIONS: &[u8] =
     b"? 0 CUSTOM_MESSAGE * * 25882 21 *\n0 CUSTOM_MESSAGE 1 0 25882 22 x011f000800000000\n";
 
-/// CUSTOM_MESSAGE is type 1023; its data follow 4 octets of vendor and 1 of subtype (LLRP 1.1, section 17.1.45).
+/// CUSTOM_MESSAGE is type 1023; its data follow 4 octets of vendor and 1 of subtype (LLRP 1.1, section
+/// 17.1.45).
 const ENABLED: &str = "07FF0000001700000009 0000651A 16 011F000800000000";
 
 /// What a file answers to a request, as frames.

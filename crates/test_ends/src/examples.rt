@@ -55,7 +55,8 @@ fn llrp_session_example(rt: HostRuntime) -> Result<(), Fail> {
     Ok(())
 }
 
-/// What a reader sends to a client that adds, enables, starts and stops a ROSpec, where a tag of a GID is seen after START.
+/// What a reader sends to a client that adds, enables, starts and stops a ROSpec, where a tag of a GID is
+/// seen after START.
 const SERVED: [&str; 8] = [
     CONNECTED,
     ADDED,

@@ -123,8 +123,8 @@ static FULL_OBJECTS: [(&str, &[u8]); 3] = [
     ),
 ];
 
-/// What a reader says that the profile does not have: a frame, and its lines where it is read in the whole standard. Custom
-/// (type 1023) has a vendor, a subtype and data (LLRP 1.1, section 17.2.9).
+/// What a reader says that the profile does not have: a frame, and its lines where it is read in the whole
+/// standard. Custom (type 1023) has a vendor, a subtype and data (LLRP 1.1, section 17.2.9).
 static BEYOND: [(&str, &[u8]); 6] = [
     // Custom below a TagReportData
     (
@@ -165,7 +165,8 @@ fn client(alloc: Global, limit: u32, form: LineForm) -> Result<Gathering, ToolEr
     Ok(Gathering::new(alloc, plan, limit))
 }
 
-/// Whether these bytes leave the connection open in a set of kinds, these lines are printed, and ADD_ROSPEC is sent.
+/// Whether these bytes leave the connection open in a set of kinds, these lines are printed, and ADD_ROSPEC
+/// is sent.
 fn is_heard(alloc: Global, set: KindSet, frames: &[&str], wanted: &[u8]) -> Result<bool, ToolErr> {
     let plan = standard_plan(alloc, 0, 1)?.in_set(set);
     let mut gathering = Gathering::new(alloc, plan, 65_536);
@@ -243,7 +244,7 @@ fn the_full_objects_of_reports(rt: HostRuntime) {
     }
 }
 
-/// What a client says to these messages, that asks for KEEPALIVEs and awaits reports without end.
+/// What a client that asks for KEEPALIVEs and awaits reports without end says to these messages.
 fn lasting(alloc: Global, rows: &[&str]) -> Result<Vec<u8>, ToolErr> {
     let plan = standard_plan(alloc, 1, 0)?
         .keeping(1_000)

@@ -35,8 +35,9 @@ struct Row {
     end: Result<(), ToolErr>,
 }
 
-/// DELETE_ACCESSSPEC of all, ENABLE_ACCESSSPEC and DISABLE_ACCESSSPEC of AccessSpec 7, GET_ACCESSSPECS, and the answers of a reader that has
-/// no AccessSpecs: M_Success, M_FieldError twice, and M_Success with no AccessSpec (LLRP 1.1, sections 12 and 15).
+/// DELETE_ACCESSSPEC of all, ENABLE_ACCESSSPEC and DISABLE_ACCESSSPEC of AccessSpec 7, GET_ACCESSSPECS, and
+/// the answers of a reader that has no AccessSpecs: M_Success, M_FieldError twice, and M_Success with no
+/// AccessSpec (LLRP 1.1, sections 12 and 15).
 const OF_ACCESS: &str =
     "04290000000E0000000100000000 042A0000000E0000000200000007 042B0000000E0000000300000007 042C0000000A00000004";
 

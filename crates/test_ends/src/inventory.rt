@@ -237,7 +237,7 @@ fn one_run_over_devices(rt: HostRuntime) -> Result<(), Fail> {
 }
 
 /// How that run ends over devices of one byte a call that fail in the call after this many, how much was
-/// written, and whether that are fronts.
+/// written to each sink, and whether each has a front of what a whole run writes.
 fn failed_run(
     alloc: Global,
     reads: usize,

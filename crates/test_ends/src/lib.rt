@@ -1,7 +1,9 @@
-//! Tests of the two ends of a connection: the reader and the client, scripts and plans, and both over streams.
+//! Tests of the two ends of a connection: the reader and the client, scripts and plans, and both over
+//! streams.
 //!
-//! Add a row here for each exchange that the standard or a reader gives; the modules are named after what they test. Expected
-//! values come from the standards, never from this project's own output. No crate uses it.
+//! Add a row here for each exchange that the standard or a reader gives; the modules are named after what
+//! they test. Expected values come from the standards, never from this project's own output. No crate uses
+//! it.
 #![tactic(auto)]
 
 #[cfg(test)]
@@ -33,9 +35,13 @@ mod renewing;
 #[cfg(test)]
 mod script;
 #[cfg(test)]
+mod script_lines;
+#[cfg(test)]
 mod serve;
 #[cfg(test)]
 mod serve_devices;
+#[cfg(test)]
+mod timetable;
 #[cfg(test)]
 mod versions;
 #[cfg(test)]

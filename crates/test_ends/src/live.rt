@@ -9,7 +9,8 @@ use std::alloc::Global;
 use std::test::*;
 use test_devices::{are_spelled, octets};
 
-/// A second after the first moment, in microseconds since 1970: 1,600,000,000,000,000 is hexadecimal 0005AF3107A40000.
+/// A second after the first moment, in microseconds since 1970: 1,600,000,000,000,000 is hexadecimal
+/// 0005AF3107A40000.
 const FIRST: u64 = 1_600_000_000_000_000;
 
 const SECOND: u64 = 1_000_000;
@@ -17,7 +18,8 @@ const SECOND: u64 = 1_000_000;
 /// READER_EVENT_NOTIFICATION of a connection that is accepted at the first moment (LLRP 1.1, section 14.1).
 const ACCEPTED: &str = "043F0000002000000001 00F60016 0080000C 0005AF3107A40000 010000060000";
 
-/// SET_READER_CONFIG with a KEEPALIVE each 1,000 ms, and with an AccessReportSpec, which the profile does not have; and its response.
+/// SET_READER_CONFIG with a KEEPALIVE each 1,000 ms, and with an AccessReportSpec, which the profile does not
+/// have; and its response.
 const CONFIGURE: &str = "0403000000190000000100 00DC000901000003E8 00EF000500";
 
 const CONFIGURED: &str = "040D0000001200000001 011F000800000000";
@@ -30,8 +32,8 @@ const GET_VERSION: &str = "082E0000000A00000007";
 
 const VERSION: &str = "083800000014000000070102 011F000800000000";
 
-/// SET_PROTOCOL_VERSION 2 and 1, and their responses; KEEPALIVE_ACK of both versions, and ERROR_MESSAGE 110 for the one that is not in use;
-/// GET_ROSPECS of version 2, and its response.
+/// SET_PROTOCOL_VERSION 2 and 1, and their responses; KEEPALIVE_ACK of both versions, and ERROR_MESSAGE 110
+/// for the one that is not in use; GET_ROSPECS of version 2, and its response.
 const SET_TWO: &str = "082F0000000B0000000C02";
 
 const SET_ONE: &str = "082F0000000B0000000D01";
@@ -44,14 +46,16 @@ const GET_ROSPECS: &str = "081A0000000A00000011";
 
 const ROSPECS: &str = "082400000012 00000011 011F000800000000";
 
-/// What the reader answers by a file, beside its own answers: CUSTOM_MESSAGE of subtype 23, and the answer of subtype 24.
+/// What the reader answers by a file, beside its own answers: CUSTOM_MESSAGE of subtype 23, and the answer of
+/// subtype 24.
 const FILE: &[u8] = b"? 0 CUSTOM_MESSAGE * * 25882 23 *\n0 CUSTOM_MESSAGE 1 0 25882 24 x00\n";
 
 const ASKED: &str = "07FF0000000F000000100000651A17";
 
 const TOLD: &str = "07FF00000010000000100000651A1800";
 
-/// ADD_ROSPEC without a ROSpec is no message; CUSTOM_MESSAGE is one that the profile does not have; ERROR_MESSAGE 100 and 109.
+/// ADD_ROSPEC without a ROSpec is no message; CUSTOM_MESSAGE is one that the profile does not have;
+/// ERROR_MESSAGE 100 and 109.
 const NO_ROSPEC: &str = "04140000000A00000009";
 
 const NOT_ADDED: &str = "04640000001200000009 011F000800640000";
@@ -65,7 +69,8 @@ const CLOSE: &str = "040E0000000A0000000A";
 
 const CLOSED: &str = "0404000000120000000A 011F000800000000";
 
-/// What a client sends a second after the last, and what the reader says: to the octets, and then to the time that has passed.
+/// What a client sends a second after the last, and what the reader says: to the octets, and then to the time
+/// that has passed.
 struct Row {
     up: &'static str,
     down: &'static [&'static str],
@@ -104,7 +109,8 @@ static ROWS: [Row; 12] = [
         later: &["043E0000000A00000006"],
         closes: false,
     },
-    // Version 2 is refused until it is agreed, and then version 1; own messages have the version of the last message that was taken.
+    // Version 2 is refused until it is agreed, and then version 1; own messages have the version of the last
+    // message that was taken.
     Row {
         up: ACK_OF_TWO,
         down: &["0464000000120000000E 011F0008006E0000"],
@@ -149,7 +155,8 @@ static ROWS: [Row; 12] = [
     },
 ];
 
-/// What a reader says to a client that connects and sends these octets, and whether they close the connection.
+/// What a reader says to a client that connects and sends these octets, and whether they close the
+/// connection.
 fn llrp_live_served(
     alloc: Global,
     now: u64,
@@ -171,7 +178,8 @@ fn llrp_live_example(rt: HostRuntime) -> Result<(), Fail> {
     Ok(())
 }
 
-/// Whether the octets of a row are answered as it says, cut into pieces of this length, and so is the time that has passed.
+/// Whether the octets of a row are answered as it says, cut into pieces of this length, and so is the time
+/// that has passed.
 fn is_served(
     alloc: Global,
     reader: &mut LiveReader,

@@ -1,4 +1,5 @@
-//! Plans other than the standard ones: with a ROSpec of one's own, reports that are awaited, and a clean start.
+//! Plans other than the standard ones: with a ROSpec of one's own, reports that are awaited, and a clean
+//! start.
 
 ghost use Rattle.std.specs.Prelude.{◌≤◌};
 
@@ -213,8 +214,8 @@ fn plan_of(alloc: Global, row: &Row) -> Option<Plan> {
     })
 }
 
-/// Whether a plan's client, given the reader's octets in pieces of this size, closes the connection with the last one, sends the
-/// octets that it is to send, and prints the lines.
+/// Whether a plan's client, given the reader's octets in pieces of this size, closes the connection with the
+/// last one, sends the octets that it is to send, and prints the lines.
 fn is_followed(alloc: Global, row: &Row, size: usize) -> Option<bool>
     requires { 1 ≤ size }
 {
@@ -351,7 +352,8 @@ fn the_plan_of_a_text(rt: HostRuntime) -> Result<(), Fail> {
     Ok(())
 }
 
-/// The lines of a ROSpec that only the whole standard has, with an RFSurveySpec in place of an AISpec, and the ADD_ROSPEC of it.
+/// The lines of a ROSpec that only the whole standard has, with an RFSurveySpec in place of an AISpec, and
+/// the ADD_ROSPEC of it.
 const SURVEY: &[u8] =
     b"1 ROSpec 9 3 0\n2 ROBoundarySpec\n3 ROSpecStartTrigger 0\n3 ROSpecStopTrigger 0 0\n\
 2 RFSurveySpec 1 865700 866300\n3 RFSurveySpecStopTrigger 0 0 0\n";

@@ -74,8 +74,8 @@ const ADD_POLLED: Does = Does::Take(
     "08140000004B00000002 00B10041000000010000 00B20012 00B3000500 00B600090000000000 00B7001800010000 00B800090000000000 00BA0007000101 00ED000D000000 00EE00061400",
 );
 
-/// ADD_ROSPEC of ROSpec 7, for antennas 1 and 3: it starts when it is enabled, ends after 1,500 milliseconds, and reports
-/// all that a selector selects after 2 tags.
+/// ADD_ROSPEC of ROSpec 7, for antennas 1 and 3: it starts when it is enabled, ends after 1,500 milliseconds,
+/// and reports all that a selector selects after 2 tags.
 const ADD_FULL: Does = Does::Take(
     "08140000005400000002 00B1004A000000070300 00B20012 00B3000501 00B6000901000005DC 00B70021000200010003 00B800090000000000 00BA0007000501 00BA0007000601 00ED000D010002 00EE0006FFC0",
 );

@@ -1,4 +1,5 @@
-//! Plans that delete the reader's ROSpec of their own id first, whatever the reader answers, and plans that do nothing else.
+//! Plans that delete the reader's ROSpec of their own id first, whatever the reader answers, and plans that
+//! do nothing else.
 
 use crate::gathering::CONNECTED;
 use llrp_tool::{Gathering, Plan, ToolErr, standard_plan};
@@ -20,8 +21,8 @@ const ADDED: &str = "041E0000001200000002 011F000800000000";
 
 const ENABLE: &str = "04180000000E00000003 00000001";
 
-/// Answers to that request that let the plan go on: granted; refused; refused with a text and a FieldError (type 288); and
-/// ERROR_MESSAGE (type 100).
+/// Answers to that request that let the plan go on: granted; refused; refused with a text and a FieldError
+/// (type 288); and ERROR_MESSAGE (type 100).
 static ANSWERS: [&str; 4] = [
     "041F0000001200000001 011F000800000000",
     "041F0000001200000001 011F000800650000",

@@ -30,7 +30,7 @@ fn stops_at_the_end_of(
     Ok(end == Err(ToolErr::Read) && is_front(written.as_slice(), wanted, said))
 }
 
-/// Whether these are the first this many of the wanted bytes.
+/// Whether these are the first `length` of the wanted bytes.
 fn is_front(written: &[u8], wanted: &[u8], length: usize) -> bool {
     wanted.starts_with(written) && written.len() == length
 }
@@ -60,8 +60,8 @@ fn a_read_that_fails_comes_after_the_answers_so_far(rt: HostRuntime) -> Result<(
     Ok(())
 }
 
-/// Whether serving these bytes ends with the write that fails after this many, and what was written is a front
-/// of what is to be said.
+/// Whether serving these bytes ends with the write that fails after this many, and what was written is a
+/// front of what is to be said.
 fn stops_after(alloc: Global, stream: &[u8], wanted: &[u8], left: usize) -> Result<bool, ToolErr> {
     let script = Script::parse(alloc, b"")?;
     let mut source = Input::new(stream);

@@ -22,8 +22,9 @@ struct Row {
     wanted: Wanted,
 }
 
-/// GET_SUPPORTED_VERSION_RESPONSE is type 56, with the version in use and the greatest; SET_PROTOCOL_VERSION_RESPONSE is type 57. LLRPStatus
-/// is parameter 287: M_Success is 0, and M_UnsupportedVersion 110, hexadecimal 6E (LLRP 1.1, sections 17.1 and 17.2).
+/// GET_SUPPORTED_VERSION_RESPONSE is type 56, with the version in use and the greatest;
+/// SET_PROTOCOL_VERSION_RESPONSE is type 57. LLRPStatus is parameter 287: M_Success is 0, and
+/// M_UnsupportedVersion 110, hexadecimal 6E (LLRP 1.1, sections 17.1 and 17.2).
 static ROWS: [Row; 8] = [
     Row {
         version: Version::First,

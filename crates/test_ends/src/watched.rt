@@ -90,8 +90,9 @@ fn objects_with_a_moment(rt: HostRuntime) -> Result<(), Fail> {
     Ok(())
 }
 
-/// A report of a tag with C1G2-PC, the result of a read and a maker's Custom parameter, beside one of the report's own, in two pieces; a frame
-/// with an octet too many and a report with no tag; a report of a tag without such; and a length field of 9, after which nothing is read.
+/// A report of a tag with C1G2-PC, the result of a read and a maker's Custom parameter, beside one of the
+/// report's own, in two pieces; a frame with an octet too many and a report with no tag; a report of a tag
+/// without such; and a length field of 9, after which nothing is read.
 static REPORTED: [(&str, &str, &str); 6] = [
     ("043D00000047", "", ""),
     (
@@ -175,7 +176,8 @@ fn other_plans_end_there(rt: HostRuntime) -> Result<(), Fail> {
     Ok(())
 }
 
-/// What a client says to these messages, then to the end of the time, and then to those; and whether the connection is closed.
+/// What a client says to these messages, then to the end of the time, and then to those; and whether the
+/// connection is closed.
 fn hurried(
     alloc: Global,
     before: &[&str],
@@ -189,6 +191,13 @@ fn hurried(
     gathering.feed(octets(alloc, after)?.as_slice(), out, &mut lines)
 }
 
+/// What a client says in a whole run of that plan.
+fn whole_run(alloc: Global) -> Result<Vec<u8>, ToolErr> {
+    let [add, rest] = EVERY_ADD;
+    let [delete, close] = LAST;
+    octets(alloc, &[add, rest, ENABLE, START, STOP, delete, close])
+}
+
 /// While a report is awaited the ROSpec is stopped at once.
 #[test]
 fn the_time_is_up_where_a_report_is_awaited(rt: HostRuntime) -> Result<(), Fail> {
@@ -200,18 +209,7 @@ fn the_time_is_up_where_a_report_is_awaited(rt: HostRuntime) -> Result<(), Fail>
     assert!(rt; out.as_slice() == stopped.as_slice());
     let mut all = Vec::new(alloc);
     assert!(rt; hurried(alloc, &before, &ENDED, &mut all) == Ok(true));
-    let whole = octets(
-        alloc,
-        &[
-            EVERY_ADD[0],
-            EVERY_ADD[1],
-            ENABLE,
-            START,
-            STOP,
-            LAST[0],
-            LAST[1],
-        ],
-    )?;
+    let whole = whole_run(alloc)?;
     assert!(rt; all.as_slice() == whole.as_slice());
     Ok(())
 }
@@ -274,7 +272,8 @@ impl Watcher for Shift {
     }
 }
 
-/// How a run over these octets ends whose time is up after this many of them, and how many octets the lines have.
+/// How a run over these octets ends whose time is up after this many of them, and how many octets the lines
+/// have.
 fn watched(
     alloc: Global,
     stream: &[u8],
@@ -294,7 +293,7 @@ fn watched(
     Ok((ended, shift.octets))
 }
 
-/// A run that learns that the time is up ends as its plan ends, and one that is not ends with its source.
+/// A run that learns that the time is up ends as its plan ends, and one that does not ends with its source.
 #[test]
 fn a_shift(rt: HostRuntime) -> Result<(), Fail> {
     let alloc = rt.alloc();
@@ -302,10 +301,7 @@ fn a_shift(rt: HostRuntime) -> Result<(), Fail> {
         alloc,
         &[CONNECTED, STARTED[0], STARTED[1], STARTED[2], REPORT],
     )?;
-    let mut stream = octets(
-        alloc,
-        &[CONNECTED, STARTED[0], STARTED[1], STARTED[2], REPORT],
-    )?;
+    let mut stream = before.as_slice().to_vec(alloc)?;
     stream.extend_from_slice(octets(alloc, &ENDED)?.as_slice())?;
     let mut out = Vec::new(alloc);
     let (ended, lines) = watched(alloc, stream.as_slice(), before.len() as u64, &mut out)?;
@@ -314,18 +310,7 @@ fn a_shift(rt: HostRuntime) -> Result<(), Fail> {
         reports: 1,
     };
     assert!(rt; ended == Ok(one) && lines == LINE.len() as u64);
-    let whole = octets(
-        alloc,
-        &[
-            EVERY_ADD[0],
-            EVERY_ADD[1],
-            ENABLE,
-            START,
-            STOP,
-            LAST[0],
-            LAST[1],
-        ],
-    )?;
+    let whole = whole_run(alloc)?;
     assert!(rt; out.as_slice() == whole.as_slice());
     let mut on = Vec::new(alloc);
     let (early, same) = watched(alloc, before.as_slice(), u64::MAX, &mut on)?;

@@ -1,5 +1,5 @@
-//! A reader and a client beside the two ends of a connection, which take the same messages: the state of the plan's ROSpec in
-//! both, while the bytes go up one octet at a time.
+//! A reader and a client beside the two ends of a connection, which take the same messages: the state of the
+//! plan's ROSpec in both, while the bytes go up one octet at a time.
 
 use crate::pieces::Way;
 use crate::tally::Tally;
@@ -199,8 +199,8 @@ impl Ends {
     }
 }
 
-/// Whether the ROSpec is Disabled and not seen yet where the reader has taken ADD_ROSPEC, and nothing came down but the
-/// message of the connection.
+/// Whether the ROSpec is Disabled and not seen yet where the reader has taken ADD_ROSPEC, and nothing came
+/// down but the message of the connection.
 fn is_added_unseen(ends: &mut Ends) -> Option<bool> {
     ends.deliver_down()?;
     for _ in 0..1000 {

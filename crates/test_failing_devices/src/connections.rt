@@ -1,6 +1,7 @@
-//! Both ends of a connection over devices that fail, in two exchanges of three sightings (LLRP 1.1, section 17.1). In the first they
-//! are reported after two and when they are asked for. In the second the ROSpec is one of the client's own, which the reader starts
-//! and which reports each; the client deletes all ROSpecs first, awaits a report, asks for one, and compares the tables.
+//! Both ends of a connection over devices that fail, in two exchanges of three sightings (LLRP 1.1, section
+//! 17.1). In the first they are reported after two and when they are asked for. In the second the ROSpec is
+//! one of the client's own, which the reader starts and which reports each; the client deletes all ROSpecs
+//! first, awaits a report, asks for one, and compares the tables.
 
 ghost use Rattle.std.specs.Prelude.{◌≡◌, [], None, Some};
 ghost use Rattle.llrp_stream.specs.Calls.Device.{new_sink, new_source};
@@ -14,8 +15,8 @@ use llrp_tool::{
 use std::alloc::Global;
 use test_devices::{Dripping, Failure, NEVER, THREE_LINES, THREE_SIGHTINGS, Taking};
 
-/// What the client sends in the first exchange: ADD_ROSPEC, ENABLE_ROSPEC, START_ROSPEC, GET_REPORT, STOP_ROSPEC, DELETE_ROSPEC and
-/// CLOSE_CONNECTION.
+/// What the client sends in the first exchange: ADD_ROSPEC, ENABLE_ROSPEC, START_ROSPEC, GET_REPORT,
+/// STOP_ROSPEC, DELETE_ROSPEC and CLOSE_CONNECTION.
 const UP: &[u8] =
     b"04140000004B00000001 00B10041000000010000 00B20012 00B3000500 00B600090000000000 00B7001800010000 00B800090000000000 00BA0007000101 00ED000D020002 00EE00061400
     04180000000E0000000200000001 04160000000E0000000300000001 043C0000000A00000004 04170000000E0000000500000001 04150000000E0000000600000001 040E0000000A00000007";
@@ -44,8 +45,8 @@ const ROSPEC: &[u8] =
 2 AISpec w1,2\n3 AISpecStopTrigger 0 0\n3 InventoryParameterSpec 1 1\n2 ROReportSpec 2 1\n\
 3 TagReportContentSelector 0 0 0 1 0 1 0 0 0 0\n";
 
-/// What the client sends in it: DELETE_ROSPEC, ADD_ROSPEC, ENABLE_ROSPEC, GET_REPORT, DISABLE_ROSPEC, GET_ROSPECS, DELETE_ROSPEC
-/// and CLOSE_CONNECTION.
+/// What the client sends in it: DELETE_ROSPEC, ADD_ROSPEC, ENABLE_ROSPEC, GET_REPORT, DISABLE_ROSPEC,
+/// GET_ROSPECS, DELETE_ROSPEC and CLOSE_CONNECTION.
 const OWN_UP: &[u8] = b"04150000000E0000000100000000
     04140000004D00000002 00B10043000000070000 00B20012 00B3000501 00B600090000000000 00B7001A000200010002 00B800090000000000 00BA0007000101 00ED000D020001 00EE00061400
     04180000000E0000000300000007 043C0000000A00000004 04190000000E0000000500000007 041A0000000A00000006
@@ -119,7 +120,8 @@ impl Fails {
         Taking::new(alloc, self.call_of(device), self.failure)
     }
 
-    /// Whether a sink took what it has to: the octets before the call that fails, all where no device fails, and else a front.
+    /// Whether a sink took what it has to: the octets before the call that fails, all where no device fails,
+    /// and else a front.
     fn is_right(self, device: Device, taken: &[u8], wanted: &[u8]) -> bool {
         if self.call == NEVER {
             taken == wanted

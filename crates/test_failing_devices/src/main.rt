@@ -1,5 +1,6 @@
-//! Runs the commands over sources and sinks that give or take an octet a call and fail in one call, for each call in turn, and
-//! the two ends in pieces of some sizes; prints how many cases of each row passed and failed.
+//! Runs the commands over sources and sinks that give or take an octet a call and fail in one call, for each
+//! call in turn, and the two ends in pieces of some sizes; prints how many cases of each row passed and
+//! failed.
 #![tactic(auto)]
 
 mod beside;

@@ -66,7 +66,8 @@ fn hand_over(
     Ok(false)
 }
 
-/// The lines that a client prints whose reader acts by the script, where each reads pieces of this many bytes.
+/// The lines that a client prints whose reader acts by the script, where each reads pieces of this many
+/// bytes.
 fn told(alloc: Global, size: usize) -> Result<Vec<u8>, ToolErr> {
     let core = Reader::new(alloc, LIMIT, 1);
     let mut serving = Serving::new(alloc, core, Script::parse(alloc, THREE_SIGHTINGS)?);

@@ -5,7 +5,8 @@ use llrp_tool::{LIMIT, Output, ToolErr, Verdict, run_encode, run_epc, run_show};
 use std::alloc::Global;
 use test_devices::{Dripping, Failure, Gulping, NEVER, Taking};
 
-/// A report whose TagReportData is one octet too long, followed by KEEPALIVE (LLRP 1.1, section 17.1), and its listing.
+/// A report whose TagReportData is one octet too long, followed by KEEPALIVE (LLRP 1.1, section 17.1), and
+/// its listing.
 const FAULTY: &[u8] =
     b"\x04\x3d\0\0\0\x1b\0\0\0\x01\0\xf0\0\x12\x8d\x30\x74\x25\x7b\xf7\x19\x4e\x40\0\0\x1a\x85\x08\x3e\0\0\0\x0a\0\0\0\x07";
 

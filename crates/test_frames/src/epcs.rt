@@ -18,8 +18,8 @@ fn read(number: u128) -> Option<Result<Whole, WordFault>> {
     }
 }
 
-/// Numbers of words of schemes with a company prefix: the scheme, the filter value, the digits of the company prefix, the
-/// prefix, the reference, and the serial number.
+/// Numbers of words of schemes with a company prefix: the scheme, the filter value, the digits of the company
+/// prefix, the prefix, the reference, and the serial number.
 static PARTITIONED: [(u128, Kind, u8, u8, u64, u64, u64); 8] = [
     (
         0x3074_257B_F719_4E40_0000_1A85,
@@ -103,8 +103,8 @@ fn made(epc: Result<Epc, EpcFault>) -> Result<Whole, EpcFault> {
     Ok(whole(epc?))
 }
 
-/// The filter value, the digits of the company prefix, the prefix, the reference and the serial number of SGTINs, and the
-/// number of the word, or the first fault.
+/// The filter value, the digits of the company prefix, the prefix, the reference and the serial number of
+/// SGTINs, and the number of the word, or the first fault.
 static SGTINS: [(u8, u8, u64, u64, u64, Result<u128, EpcFault>); 9] = [
     (
         7,

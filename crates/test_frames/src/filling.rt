@@ -74,7 +74,8 @@ fn a_message_over_the_limit_is_not_written(rt: HostRuntime) {
     assert!(rt; written(rt.alloc(), 27) == Some((Ok(()), 27)));
 }
 
-/// Whether a sink that takes an octet a call, and fails in the call after `left`, has the frame's first octets.
+/// Whether a sink that takes an octet a call, and fails in the call after `left`, has the frame's first
+/// octets.
 fn stops_after(alloc: Global, message: &Message, frame: &[u8], left: usize) -> bool {
     let mut sink = Taking::after(alloc, left);
     let answer = write_message(message, 65_536, &mut sink);

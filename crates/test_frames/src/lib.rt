@@ -1,7 +1,8 @@
 //! Tests of words and their texts, of the tables, of frames and of the decoder over pieces of a stream.
 //!
-//! Add a row here for each word or frame that the standard or a reader gives; the modules are named after what they test. Expected
-//! values come from the standards, never from this project's own output. No crate uses it.
+//! Add a row here for each word or frame that the standard or a reader gives; the modules are named after
+//! what they test. Expected values come from the standards, never from this project's own output. No crate
+//! uses it.
 #![tactic(auto)]
 
 #[cfg(test)]

@@ -3,11 +3,15 @@
 use std::test::Fail;
 use tag_bits::Word;
 use tag_epc::Epc;
-use tag_forms::{FORMS, Form, FormFault, form_named, form_of, push_forms, text_in, word_in};
+use tag_forms::{
+    AllFault, FORMS, Form, FormFault, form_in_all, form_named, form_of, push_forms,
+    push_forms_in_all, read_in_all, text_in, word_in,
+};
 use tag_keys::KeyFault;
+use tag_schemes::SchemeFault;
 
-/// The forms of one word each, in the order of [`FORMS`]; the filter value is 3 and the company prefix has 7 digits (EPC Tag Data
-/// Standard 1.13, sections 7 and 14, and appendix E).
+/// The forms of one word each, in the order of [`FORMS`]; the filter value is 3 and the company prefix has 7
+/// digits (EPC Tag Data Standard 1.13, sections 7 and 14, and appendix E).
 const WORDS: [(u128, [&str; 6]); 3] = [
     (
         0x3074257BF7194E4000001A85,
@@ -126,5 +130,49 @@ fn lines_of_forms(rt: HostRuntime) -> Result<(), Fail> {
         push_forms(&mut lines, word)?;
     }
     assert_eq!(rt; lines.as_slice(), LINES.as_bytes());
+    Ok(())
+}
+
+/// Words of further schemes: the GIAI-96 of EPC Tag Data Standard 1.13, appendix E, and a USDoD-96 by hand from its layout.
+const FURTHER: [(u128, &str, &str, &str); 2] = [
+    (
+        0x3474257BF40000000000162E,
+        "urn:epc:tag:giai-96:3.0614141.5678",
+        "3474257BF40000000000162E",
+        "tag urn:epc:tag:giai-96:3.0614141.5678\nhex 3474257BF40000000000162E\n",
+    ),
+    (
+        0x2F32032533139342DFDC1C35,
+        "urn:epc:tag:usdod-96:3.2S194.12345678901",
+        "2F32032533139342DFDC1C35",
+        "tag urn:epc:tag:usdod-96:3.2S194.12345678901\nhex 2F32032533139342DFDC1C35\n",
+    ),
+];
+
+#[test]
+fn words_of_further_schemes(rt: HostRuntime) -> Result<(), Fail> {
+    for (number, tag, hex, forms) in FURTHER {
+        let word = Word::new(number).ok_or("no word")?;
+        let text = form_in_all(word, Form::Tag).ok_or("no text")?;
+        assert_eq!(rt; text.as_str(), tag);
+        let text = form_in_all(word, Form::Hex).ok_or("no digits")?;
+        assert_eq!(rt; text.as_str(), hex);
+        assert!(rt; form_in_all(word, Form::Pure).is_none());
+        assert!(rt; form_in_all(word, Form::Key).is_none());
+        assert_eq!(rt; read_in_all(tag, Form::Tag, 0, None), Ok(word));
+        assert_eq!(rt; read_in_all(hex, Form::Hex, 0, None), Ok(word));
+        let mut lines = Vec::new(rt.alloc());
+        push_forms_in_all(&mut lines, word)?;
+        assert!(rt; lines.as_slice() == forms.as_bytes());
+    }
+    let code = AllFault::Tag(SchemeFault::Code);
+    assert_eq!(rt;
+        read_in_all("urn:epc:tag:usdod-96:3.2I194.1", Form::Tag, 0, None),
+        Err(code)
+    );
+    assert_eq!(rt; code.name(), "Code");
+    let hex = AllFault::Form(FormFault::Hex);
+    assert_eq!(rt; read_in_all("30", Form::Hex, 0, None), Err(hex));
+    assert_eq!(rt; hex.name(), "Hex");
     Ok(())
 }

@@ -1,8 +1,9 @@
-//! Listings with labels: worked examples, the example of `llrp_labels`, and lines that are refused.
+//! Listings and lines of tags with labels: worked examples, the example of `llrp_labels`, and lines that are
+//! refused.
 
 use llrp_labels::{
-    LabelErr, LabelFault, Labels, PlainErr, label_text, list_labelled, plain_text, read_plain,
-    run_show_labelled,
+    LabelErr, LabelFault, Labels, PlainErr, label_tags, label_text, list_labelled, plain_text,
+    read_plain, run_show_labelled,
 };
 use llrp_listing::Verdict;
 use llrp_schema::KindSet;
@@ -12,7 +13,8 @@ use std::test::Fail;
 use tag_schemes::SchemeFault;
 use tag_uri::UriFault;
 
-/// The frame of a report with the words of an SGTIN-96 and of a GIAI-96, examples of the EPC Tag Data Standard 1.13, appendix E.
+/// The frame of a report with the words of an SGTIN-96 and of a GIAI-96, examples of the EPC Tag Data
+/// Standard 1.13, appendix E.
 const STREAM: &str =
     "043D0000002C0000000100F000118D3074257BF7194E4000001A8500F000118D3474257BF40000000000162E";
 
@@ -78,6 +80,31 @@ fn shown_and_read_back(rt: HostRuntime) -> Result<(), Fail> {
     let listed = list_labelled(alloc, labels, KindSet::Profile, &[], &mut nothing, 65_536);
     assert!(rt; listed == Ok(Verdict::Lawful));
     assert!(rt; nothing.into_inner().is_empty());
+    Ok(())
+}
+
+/// Lines of those tags in words, and the same in the set of all schemes; words have no key.
+const WORDS: [&[u8]; 2] = [
+    b"urn:epc:tag:sgtin-96:3.0614141.812345.6789 1 -60\nurn:epc:raw:96.x3474257BF40000000000162E 1 -\n= 2\ntotal 2 1\n",
+    b"urn:epc:tag:sgtin-96:3.0614141.812345.6789 1 -60\nurn:epc:tag:giai-96:3.0614141.5678 1 -\n= 2\ntotal 2 1\n",
+];
+
+/// The same lines as objects, with the key's members in that of the SGTIN-96, and a last line without LF.
+const OBJECTS: [&[u8]; 2] = [
+    b"{\"epc\":\"urn:epc:tag:sgtin-96:3.0614141.812345.6789\",\"antenna\":1}\n{\"epc\":\"urn:epc:raw:96.x3474257BF40000000000162E\"}\n{\"epc\":\"bits 8 xaa\"}\n{\"report\":3}",
+    b"{\"epc\":\"urn:epc:tag:sgtin-96:3.0614141.812345.6789\",\"antenna\":1,\"gtin\":\"80614141123458\",\"serial\":\"6789\"}\n{\"epc\":\"urn:epc:tag:giai-96:3.0614141.5678\"}\n{\"epc\":\"bits 8 xaa\"}\n{\"report\":3}",
+];
+
+#[test]
+fn lines_of_tags(rt: HostRuntime) -> Result<(), Fail> {
+    let labels = Labels {
+        schemes: true,
+        keys: true,
+    };
+    for (json, [lines, labelled]) in [(false, WORDS), (true, OBJECTS)] {
+        let found = label_tags(rt.alloc(), labels, json, lines)?;
+        assert!(rt; found.as_slice() == labelled);
+    }
     Ok(())
 }
 

@@ -1,4 +1,5 @@
-//! Tests of `tag_keys`, `tag_schemes`, `tag_forms` and `llrp_labels`: worked examples of the EPC Tag Data Standard, and texts that a rule refuses.
+//! Tests of `tag_keys`, `tag_schemes`, `tag_forms` and `llrp_labels`: worked examples of the EPC Tag Data
+//! Standard, and texts that a rule refuses.
 #![tactic(auto)]
 
 #[cfg(test)]

@@ -4,7 +4,8 @@ use std::alloc::Global;
 use std::test::Fail;
 use tag_forms::{Company, Form, LONGEST_LINE, PrefixErr, Prefixes, TextList, Wanted, push_wanted};
 
-/// A list with each kind of line: texts of the standard, ends of lines with and without a carriage return, and refused ones.
+/// A list with each kind of line: texts of the standard, ends of lines with and without a carriage return,
+/// and refused ones.
 const LIST: &str =
     "urn:epc:id:sgtin:0614141.812345.6789\r\n\n3074257BF7194E4000001A85\n(01)80614141123451(21)6789\n\
 E20000000000000000000001\nsscc 106141412345678908";
@@ -18,7 +19,8 @@ const TAGS: &str =
     "urn:epc:tag:sgtin-96:3.0614141.812345.6789\n! Hex\nurn:epc:tag:sgtin-96:3.0614141.812345.6789\n! Check 8\n\
 urn:epc:raw:96.xE20000000000000000000001\tHeader 0\nurn:epc:tag:sscc-96:3.0614141.1234567890\n";
 
-/// The answers to a list that comes in two pieces, the first of at most `count` octets, and whether a line is refused.
+/// The answers to a list that comes in two pieces, the first of at most `count` octets, and whether a line is
+/// refused.
 fn answers(alloc: Global, list: &[u8], to: Form, count: usize) -> Result<(Vec<u8>, bool), Fail> {
     let mut answers = Vec::new(alloc);
     let mut texts = TextList::new(alloc, Wanted::Text(to), 3, Company::Digits(Some(7)));
@@ -102,7 +104,8 @@ fn digits_by_table(rt: HostRuntime) -> Result<(), Fail> {
     Ok(())
 }
 
-/// Texts and their objects: those of a word with all forms, of a word without an EPC, and of texts that are refused.
+/// Texts and their objects: those of a word with all forms, of a word without an EPC, and of texts that are
+/// refused.
 const OBJECTS: [(&str, &str); 4] = [
     (
         "3074257BF7194E4000001A85",
@@ -132,8 +135,8 @@ fn objects_of_texts(rt: HostRuntime) -> Result<(), Fail> {
     Ok(())
 }
 
-/// Texts, forms, and the objects of these forms: of words with and without the form, of a word without an EPC, and of texts that are
-/// refused.
+/// Texts, forms, and the objects of these forms: of words with and without the form, of a word without an
+/// EPC, and of texts that are refused.
 const MEMBERS: [(&str, Form, &str); 6] = [
     (
         "3074257BF7194E4000001A85",

@@ -6,8 +6,8 @@ use llrp_capture::{
 use std::alloc::Global;
 use std::test::*;
 
-/// Segments of a side in the order of a capture, each with its sequence number; the side's first octet has the number 4,294,967,294,
-/// two before the numbers begin again. Then what is handed on.
+/// Segments of a side in the order of a capture, each with its sequence number; the side's first octet has
+/// the number 4,294,967,294, two before the numbers begin again. Then what is handed on.
 static SIDES: [(&[(u32, &[u8])], &[u8]); 7] = [
     (&[(4_294_967_294, b"ab"), (0, b"cd"), (2, b"e")], b"abcde"),
     // in another order

@@ -49,8 +49,8 @@ fn refuses(rt: &(impl Abort + AllocGlobal), listing: &[u8], line: u64, reason: R
     assert!(rt; bytes.is_empty());
 }
 
-/// The first message of a listing is refused so; and also where a message comes before it, in pieces of 1, 7 and 4,096 octets,
-/// when that one is written and no more.
+/// The first message of a listing is refused so; and also where a message comes before it, in pieces of 1, 7
+/// and 4,096 octets, when that one is written and no more.
 pub(crate) fn refuses_anywhere(
     rt: &(impl Abort + AllocGlobal),
     listing: &[u8],
@@ -214,8 +214,8 @@ fn refusals_of_parameters(rt: HostRuntime) -> Result<(), Fail> {
     Ok(())
 }
 
-/// Listings of lists of antennas, of status texts and of messages that lack a parameter or may not have it; the line that
-/// is refused, and why.
+/// Listings of lists of antennas, of status texts and of messages that lack a parameter or may not have it;
+/// the line that is refused, and why.
 static LISTS_AND_CLOSINGS: [(&[u8], u64, Refusal); 11] = [
     (
         b"0 ADD_ROSPEC 2 2\n1 ROSpec 1 0 0\n2 AISpec w007\n",

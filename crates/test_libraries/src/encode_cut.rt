@@ -28,7 +28,8 @@ fn is_encoded(alloc: Global, listing: &[u8], first: usize, later: usize, stream:
     answer == Ok(()) && written.as_slice() == stream
 }
 
-/// The same of a listing that is cut into two at each of its places, and of one that comes in pieces of 1 and of 7 octets.
+/// The same of a listing that is cut into two at each of its places, and of one that comes in pieces of 1 and
+/// of 7 octets.
 fn is_encoded_cut(alloc: Global, listing: &[u8], stream: &[u8]) -> bool {
     for first in 1..=listing.len() {
         if !is_encoded(alloc, listing, first, 4096, stream) {
@@ -67,8 +68,9 @@ const FIVE_LINES: &[u8] = b"0 KEEPALIVE 2 7
 const FOUR_MESSAGES: &str =
     "083E0000000A00000007 08640000001500000009 011F000B0064000341C3A9 08480000000A00000100 083C0000000A00000001";
 
-/// How many octets the closed messages have once this many lines were read. A message is closed when the line of the next one
-/// was read: KEEPALIVE of 10 octets by the second line, ERROR_MESSAGE of 21 by the fourth, and KEEPALIVE_ACK of 10 by the fifth.
+/// How many octets the closed messages have once this many lines were read. A message is closed when the line
+/// of the next one was read: KEEPALIVE of 10 octets by the second line, ERROR_MESSAGE of 21 by the fourth,
+/// and KEEPALIVE_ACK of 10 by the fifth.
 fn closed_after(lines: usize) -> usize {
     match lines {
         0 | 1 => 0,
@@ -78,7 +80,8 @@ fn closed_after(lines: usize) -> usize {
     }
 }
 
-/// Whether encoding from a source stops where reading fails, after the first this many octets of the messages were written.
+/// Whether encoding from a source stops where reading fails, after the first `count` octets of the messages
+/// were written.
 fn stops<R: Source>(alloc: Global, source: &mut R, count: usize) -> Result<bool, ToolErr>
     requires { IsFreshSource (R.log source.old) }
 {
@@ -102,7 +105,7 @@ fn closed_messages_are_written_before_the_next_line_is_read(rt: HostRuntime) {
     }
 }
 
-/// How many lines end within the first this many octets.
+/// How many lines end within the first `count` octets.
 fn lines_within(listing: &[u8], count: usize) -> usize {
     let mut lines = 0usize;
     for octet in listing.iter().take(count) {

@@ -1,5 +1,5 @@
-//! The example at the head of each library's `src/lib.rt`, run. Each is in a test, or in two, whose names begin with the library's;
-//! `tests/documents.py` compares the statements.
+//! The example at the head of each library's `src/lib.rt`, run. Each is in a test, or in two, whose names
+//! begin with the library's; `tests/documents.py` compares the statements.
 
 mod access;
 mod asking;

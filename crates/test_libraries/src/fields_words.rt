@@ -73,7 +73,7 @@ fn a_name_of_no_kind(rt: HostRuntime) {
             &["fields", "Keepalive"],
             1,
             b"",
-            b"llrp: name\n"
+            b"llrp: name; nearest: KEEPALIVE\n"
         )
     );
     assert!(rt;
@@ -82,7 +82,7 @@ fn a_name_of_no_kind(rt: HostRuntime) {
             &["fields", "CUSTOM_MESSAGE"],
             1,
             b"",
-            b"llrp: name\n"
+            b"llrp: name; nearest: ERROR_MESSAGE\n"
         )
     );
 }

@@ -1,4 +1,5 @@
-//! What the profile has of messages that are read in the whole standard: the messages of the profile as they are.
+//! What the profile has of messages that are read in the whole standard: the messages of the profile as they
+//! are.
 
 use crate::vectors::LAWFUL;
 use llrp_tool::{ToolErr, own_message};
@@ -7,8 +8,8 @@ use std::alloc::Global;
 use std::test::*;
 use test_devices::{decoded_in, octets};
 
-/// Whether the frame of a message of the profile is the same after it was read in the whole standard; `None` where the stream is
-/// not one frame.
+/// Whether the frame of a message of the profile is the same after it was read in the whole standard; `None`
+/// where the stream is not one frame.
 fn stays(alloc: Global, stream: &str) -> Result<Option<bool>, ToolErr> {
     let frame = octets(alloc, &[stream])?;
     let Some(Ok(message)) = decoded_in(alloc, KindSet::Standard, frame.as_slice()) else {

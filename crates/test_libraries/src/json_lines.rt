@@ -118,7 +118,8 @@ fn lines_of_faults_and_ends(rt: HostRuntime) -> Result<(), Fail> {
     Ok(())
 }
 
-/// What a stream has, piece by piece: a KEEPALIVE in three pieces, a frame with an octet too many, and a length field of 9.
+/// What a stream has, piece by piece: a KEEPALIVE in three pieces, a frame with an octet too many, and a
+/// length field of 9.
 static PIECES: [(&str, &str); 6] = [
     ("08", ""),
     ("3E0000000A0000", ""),
@@ -146,8 +147,9 @@ fn lines_of_pieces(rt: HostRuntime) -> Result<(), Fail> {
     Ok(())
 }
 
-/// Parameters of whole messages, and the member that has their objects: of a report with a result and a Custom parameter, of
-/// two with bits and with a sign, of one with reserved bits, and of one with a text; and of none.
+/// Parameters of whole messages, and the member that has their objects: of a report with a result and a
+/// Custom parameter, of two with bits and with a sign, of one with reserved bits, and of one with a text; and
+/// of none.
 static MEMBERS: [Line; 5] = [
     Line {
         name: "a result of an operation and Custom",
@@ -193,7 +195,8 @@ fn members_of_parameters(rt: HostRuntime) -> Result<(), Fail> {
     Ok(())
 }
 
-/// Messages of the profile with a field that has a longer name in the standard, under that name; and frames that are none.
+/// Messages of the profile with a field that has a longer name in the standard, under that name; and frames
+/// that are none.
 static NAMED: [Line; 4] = [
     Line {
         name: "the state of a ROSpec, of a TLV with three fields",

@@ -1,4 +1,5 @@
-//! Messages from lines of JSON: those of the standard's objects, members in another order, and lines that are refused.
+//! Messages from lines of JSON: those of the standard's objects, members in another order, and lines that are
+//! refused.
 
 use crate::json_lines::LINES;
 use json::Scratch;

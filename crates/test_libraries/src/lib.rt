@@ -1,4 +1,5 @@
-//! Tests of listings, of lines of JSON and of the commands, the conformance vectors among them, and the example of each library.
+//! Tests of listings, of lines of JSON and of the commands, the conformance vectors among them, and the
+//! example of each library.
 //!
 //! Add a row here for each listing or command; the modules are named after what they test. Expected values
 //! come from the standards, never from this project's own output. No crate uses it.
@@ -23,9 +24,13 @@ mod encode_cut;
 #[cfg(test)]
 mod epc;
 #[cfg(test)]
+mod epc_rows;
+#[cfg(test)]
 mod examples;
 #[cfg(test)]
 mod exchanged;
+#[cfg(test)]
+mod explain_cut;
 #[cfg(test)]
 mod explain_words;
 #[cfg(test)]
@@ -43,9 +48,15 @@ mod listing_epcs;
 #[cfg(test)]
 mod listing_nodes;
 #[cfg(test)]
+mod network_words;
+#[cfg(test)]
 mod reported_words;
 #[cfg(test)]
 mod show;
+#[cfg(test)]
+mod sides;
+#[cfg(test)]
+mod stream_rows;
 #[cfg(test)]
 mod usage;
 #[cfg(test)]

@@ -6,8 +6,8 @@ use std::alloc::Global;
 use std::test::*;
 use tag_uri::UriFault;
 
-/// Texts that no EPC-96 has, and the first rule that each breaks. Up to Digits, the last text of a rule breaks the next one as
-/// well.
+/// Texts that no EPC-96 has, and the first rule that each breaks. Up to Digits, the last text of a rule
+/// breaks the next one as well.
 static TEXTS: [(&str, UriFault); 54] = [
     ("3074257BF7194E4000001A85", UriFault::Start),
     ("urn:epc:tag", UriFault::Start),
@@ -57,7 +57,8 @@ static TEXTS: [(&str, UriFault); 54] = [
     ("urn:epc:tag:sgtin-96:8.0614141.812345.1", UriFault::Filter),
     ("urn:epc:tag:sgtin-96:03.0614141.812345.1", UriFault::Filter),
     ("urn:epc:tag:sgtin-96:8.0614141.81234.1", UriFault::Filter),
-    // A company prefix of 7 digits goes with 6 digits of an SGTIN's reference, one of 12 with none of an SGLN's.
+    // A company prefix of 7 digits goes with 6 digits of an SGTIN's reference, one of 12 with none of an
+    // SGLN's.
     ("urn:epc:tag:sgtin-96:3.0614141.81234.1", UriFault::Digits),
     ("urn:epc:tag:sgtin-96:3.0614141.8123456.1", UriFault::Digits),
     ("urn:epc:tag:sgtin-96:3.0614141..1", UriFault::Digits),
@@ -68,7 +69,8 @@ static TEXTS: [(&str, UriFault); 54] = [
         "urn:epc:tag:sgtin-96:3.0614141.81234.274877906944",
         UriFault::Digits,
     ),
-    // The last number of a GRAI has 38 bits, that of an SGLN and of a GDTI 41, and the numbers of a GID have 28, 24 and 36.
+    // The last number of a GRAI has 38 bits, that of an SGLN and of a GDTI 41, and the numbers of a GID have
+    // 28, 24 and 36.
     (
         "urn:epc:tag:grai-96:3.0614141.12345.274877906944",
         UriFault::Range,
@@ -127,8 +129,8 @@ fn each_rule_of_epcs_in_a_listing(rt: HostRuntime) -> Result<(), Fail> {
     Ok(())
 }
 
-/// Listings with a text that no EPC-96 has and with another fault; the line that is refused, and why. A line is tested by
-/// itself from left to right, and only then are the lines before it closed.
+/// Listings with a text that no EPC-96 has and with another fault; the line that is refused, and why. A line
+/// is tested by itself from left to right, and only then are the lines before it closed.
 static OTHER_FAULTS: [(&[u8], u64, Refusal); 5] = [
     (
         b"0 RO_ACCESS_REPORT 1 1\n1 TagReportData\n3 EPC-96 urn:epc:raw:96.x30\n",

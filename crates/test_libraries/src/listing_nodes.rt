@@ -1,4 +1,5 @@
-//! Listings with lines that are right one by one, and a message or parameter that is refused when it is closed.
+//! Listings with lines that are right one by one, and a message or parameter that is refused when it is
+//! closed.
 
 ghost use Rattle.std.specs.Prelude.{◌≤◌};
 ghost use Rattle.llrp_tree.specs.declared.TheConstants.{MAX_LIMIT};
@@ -9,8 +10,9 @@ use llrp_tree::NodeFault;
 use std::alloc::Global;
 use std::test::*;
 
-/// Listings, the line that is refused, and its fault. The last listings of a fault have a later one at the same line as well.
-/// FieldCount and TooDeep are not among them: the line that would bring one is refused by itself, for Fields or for Level.
+/// Listings, the line that is refused, and its fault. The last listings of a fault have a later one at the
+/// same line as well. FieldCount and TooDeep are not among them: the line that would bring one is refused by
+/// itself, for Fields or for Level.
 static FAULTS: [(&[u8], u64, NodeFault); 41] = [
     // A bit, a number of 32 bits, and numbers that the table bounds.
     (b"0 SET_READER_CONFIG 2 5 2\n", 1, NodeFault::Value),
@@ -48,8 +50,8 @@ static FAULTS: [(&[u8], u64, NodeFault); 41] = [
         3,
         NodeFault::Tail,
     ),
-    // Not UTF-8: an octet that begins no character, one that goes on with none, `/` in two octets, a surrogate, and a number
-    // above U+10FFFF.
+    // Not UTF-8: an octet that begins no character, one that goes on with none, `/` in two octets, a
+    // surrogate, and a number above U+10FFFF.
     (
         b"0 ERROR_MESSAGE 2 9\n1 LLRPStatus 0 xff\n",
         2,
@@ -182,7 +184,8 @@ static FAULTS: [(&[u8], u64, NodeFault); 41] = [
         NodeFault::Missing,
     ),
     (b"0 CLOSE_CONNECTION_RESPONSE 2 7\n", 1, NodeFault::Missing),
-    // Of lines with a fault each, the deepest is closed first, and one that a later line closes before that line's own.
+    // Of lines with a fault each, the deepest is closed first, and one that a later line closes before that
+    // line's own.
     (
         b"0 SET_READER_CONFIG 2 5 2\n1 ROReportSpec 256 0\n2 TagReportContentSelector 2 0 0 0 0 0 0 0 0 0\n",
         3,
@@ -263,9 +266,9 @@ const TOO_LONG: Refusal = Refusal::Node(NodeFault::TooLong);
 
 const TAIL: Refusal = Refusal::Node(NodeFault::Tail);
 
-/// Lengths of an LLRPStatus's text, and the answers. Beside its text an LLRPStatus has 8 octets, and ERROR_MESSAGE 10 more: with
-/// 65,518 octets of text the message is as long as the limit, with 65,527 the LLRPStatus is as long as a parameter may be, and
-/// no text has more than 65,535.
+/// Lengths of an LLRPStatus's text, and the answers. Beside its text an LLRPStatus has 8 octets, and
+/// ERROR_MESSAGE 10 more: with 65,518 octets of text the message is as long as the limit, with 65,527 the
+/// LLRPStatus is as long as a parameter may be, and no text has more than 65,535.
 static TEXTS: [(usize, Answer); 6] = [
     (65_518, Ok(65_536)),
     (65_519, Err((1, Refusal::OverLimit))),
@@ -288,8 +291,8 @@ fn longest_texts(rt: HostRuntime) -> Result<(), Fail> {
     Ok(())
 }
 
-/// Numbers of an AISpec's antennas, what comes below it, and the answers: no list has more than 65,535 words, and with them
-/// its octets are too many, which is returned last.
+/// Numbers of an AISpec's antennas, what comes below it, and the answers: no list has more than 65,535 words,
+/// and with them its octets are too many, which is returned last.
 static ANTENNAS: [(usize, &[u8], Answer); 4] = [
     (
         65_535,
@@ -323,8 +326,8 @@ fn longest_lists(rt: HostRuntime) -> Result<(), Fail> {
     Ok(())
 }
 
-/// What a TagReportData begins with, how many C1G2-CRC of 3 octets it has as well, and the answers. It has 4 octets of its own,
-/// its EPC-96 13, and the report 10 more.
+/// What a TagReportData begins with, how many C1G2-CRC of 3 octets it has as well, and the answers. It has 4
+/// octets of its own, its EPC-96 13, and the report 10 more.
 static CHECKSUMS: [(&[u8], usize, Answer); 5] = [
     (b"2 EPC-96 urn:epc:tag:gid-96:1.2.3\n", 21_836, Ok(65_535)),
     (
@@ -385,9 +388,9 @@ fn report_of(alloc: Global, front: &[u8], octets: usize) -> Result<Vec<u8>, Tool
     text_of(alloc, message, tag.as_slice(), 127, last.as_slice())
 }
 
-/// What the last EPCData begins with and how many octets it has, a limit, and the answers. The message has 10 octets of its own,
-/// each TagReportData 10 beside its bits, and 127 of them 8,192 of bits: that makes 1,041,664, and 6,912 or 6,913 for the last
-/// one. No message has more than 1,048,576, whatever the limit.
+/// What the last EPCData begins with and how many octets it has, a limit, and the answers. The message has 10
+/// octets of its own, each TagReportData 10 beside its bits, and 127 of them 8,192 of bits: that makes
+/// 1,041,664, and 6,912 or 6,913 for the last one. No message has more than 1,048,576, whatever the limit.
 static REPORTS: [(&[u8], usize, u32, Answer); 4] = [
     (
         b"1 TagReportData\n2 EPCData 55216 x",

@@ -38,8 +38,9 @@ Options:
       --json               Write lines of JSON in place of the listing
       --names <SET>        The names of fields with --json: those of the profile, or of the standard
       --keys               Print the key of each EPC after it, as gtin 80614141123458 6789
-      --schemes <SCHEMES>  The schemes of EPCs: all, which has GIAI-96 and GSRNP-96 too
-      --segments <PORT>    Read tshark's lines of a capture; the port is the reader's
+      --schemes <SCHEMES>  The schemes of EPCs: all, which has GIAI-96, GSRNP-96, SGCN-96, CPI-96 and USDoD-96 too
+      --segments           Read tshark's lines of a capture, as examples/capture.sh makes them
+      --port <PORT>        The reader's port in the capture; 5084 without it
   -h, --help               Print help
 
 Reads a stream of LLRP messages on standard input, or each FILE as a stream by itself, and prints its
@@ -55,11 +56,12 @@ docs/tables.md leaves out of its set; with --all they are those of the whole sta
 is 0 if all frames are messages and the last one is whole, and 1 if not. With --json each frame is one
 line of JSON in place of its lines, as docs/json.md says; with --names standard its fields have the
 names that they have with --all, and with --names profile, or without it, those of their own set.
-With --keys a tab and the key of an EPC follow it, and with --schemes all words of GIAI-96 and GSRNP-96
-have their tag URIs; both read all of the input first, and go with no --json.
+With --keys a tab and the key of an EPC follow it, and with --schemes all words of GIAI-96, GSRNP-96,
+SGCN-96, CPI-96 and USDoD-96 have their tag URIs; both read all of the input first, and go with no
+--json.
 With --segments the input is lines that examples/capture.sh makes of a capture. A line # TIME STREAM SIDE
-stands before each frame, where SIDE is reader or client, and PORT is the reader's; ? GAP N says that N
-bytes of that side are in no frame, since a segment is missing. With --json these are members.
+stands before each frame, where SIDE is reader or client; ? GAP N says that N bytes of that side are in no
+frame, since a segment is missing. With --json these are members.
 Of several files the greatest status counts; that of a file that cannot be read is 3.
 
 Example:
@@ -82,7 +84,7 @@ Options:
       --limit <N>          The most octets that a message may have [default: 65536]
       --json               Read lines of JSON in place of a listing
       --keys               Read lines that have the key of an EPC after it, and compare it
-      --schemes <SCHEMES>  The schemes of EPCs: all, which has GIAI-96 and GSRNP-96 too
+      --schemes <SCHEMES>  The schemes of EPCs: all, which has GIAI-96, GSRNP-96, SGCN-96, CPI-96 and USDoD-96 too
   -h, --help               Print help
 
 Reads a listing on standard input, or each FILE as a listing by itself, a line 0 NAME VERSION ID for
@@ -117,6 +119,7 @@ Options:
       --prefix-digits <N>  How many digits the company prefix of a key has
       --filter <F>         The filter value of a key or pure identity; without it 0
       --prefixes <FILE>    A file that says how many digits company prefixes have
+      --schemes <SCHEMES>  The schemes of EPCs: all, which has GIAI-96, GSRNP-96, SGCN-96, CPI-96 and USDoD-96 too
   -h, --help               Print help
 
 Prints the text of a tag's 96-bit word, or the word of a text:
@@ -135,6 +138,9 @@ fits counts. With --list there is a line for each line of standard input, and th
 them is ! REASON. With --json, beside --forms or --list, a line is an object with a member for each form,
 and beside --to with that of the form.
 
+With --schemes all words of GIAI-96, GSRNP-96, SGCN-96, CPI-96 and USDoD-96 have their tag URIs, which are
+raw URIs without it. Such a word has the forms tag and hex, and in each other form it is ! NoKey.
+
 Examples:
   $ llrp epc 3074257BF7194E4000001A85
   urn:epc:tag:sgtin-96:3.0614141.812345.6789
@@ -149,7 +155,7 @@ pub const SIM_HELP: &[u8] = b"Serve clients as a simulated reader, by a script
 Usage: llrp sim [OPTIONS] <PORT>
 
 Arguments:
-  <PORT>  The port to listen on
+  <PORT>  The port to listen on; 0 for a free one, with --ready
 
 Options:
       --all             Answer requests of general clients outside the set besides
@@ -158,6 +164,7 @@ Options:
       --clock <CLOCK>   Let time pass by itself: real, or real*N for N times as fast
       --answers <FILE>  Answer by FILE what the reader does not know; with --clock
       --ready           Say on standard error where it listens, once it does
+      --keep            Keep the ROSpecs from client to client; with --clock
   -h, --help            Print help
 
 Reads a script of what the reader's antennas see on standard input, to its end. Then it listens on
@@ -173,8 +180,9 @@ GET_ACCESSSPECS, as a reader that has no AccessSpecs. A script does not count th
 With --clients N it serves N clients one after another, each as a new reader by the script from its
 beginning; the exit status is the greatest of theirs. With --ready the line
   llrp: listening on ADDRESS:PORT
-stands on standard error as soon as a client can connect. --bind ADDRESS listens there; LLRP has no
-password, so let it be an address that only your own machines can reach.
+stands on standard error as soon as a client can connect, where PORT is a free one if 0 was given.
+--bind ADDRESS listens there; LLRP has no password, so let it be an address that only your own
+machines can reach.
 
 With --clock real time passes by itself, and with real*N N times as fast: KEEPALIVEs and the ends of
 ROSpecs come when they are due, and the requests of --all are answered. A script may then have lines
@@ -182,12 +190,24 @@ with a moment too, where TIME is such as 500ms or 2s:
   accepted+TIME WHAT                 this long after the connection was accepted
   started+TIME WHAT                  this long after a ROSpec first became active
   MOMENT every TIME for TIME WHAT    again and again, beginning at such a moment
-WHAT is seen ANTENNA RSSI TEXT, tick, close (the reader closes the connection) or silent TIME (it sends
-nothing for that long, and then what it has to say).
+WHAT is one of these:
+  seen ANTENNA RSSI TEXT, tick       as above
+  seen ANTENNAS RSSIS FILE           each time the next tag of a file, such as seen 1,2 -70..-50 tags.txt
+  antenna N off, antenna N on        an event of which the client hears if it asked to
+  gpi N high, gpi N low              the same of a general-purpose input
+  expect KIND within TIME            the client has to send such a message by then; else its connection
+                                     ends with llrp: expect: line L, and the status is 1
+  silent TIME                        the reader sends nothing for that long, and then what it has to say
+  octets HEX                         it sends these octets, 64 at most, whatever they are
+  send                               it sends the messages that the lines below list, as show --all does
+  cut N                              of its next message it sends N octets, and closes the connection
+  status N KIND TEXT                 its next message of that kind has the status N and this text
+  close                              it closes the connection
 
 A connection begins in version 1, and SET_PROTOCOL_VERSION changes it; a message of another version is
 refused. --answers FILE answers messages that are not in docs/tables.md: a line ? FORM, and the messages
 to answer with, as show --all lists them. FORM is a request's line there; a word * stands for any.
+With --keep a client finds the ROSpecs that the one before it left, of which none is active.
 
 Example:
   $ printf '2 5 tick\\n' | llrp sim 5084
@@ -213,6 +233,8 @@ Options:
       --timeout <SECONDS>  How long the reader may be silent; without it, for ever
       --limit <N>          The most octets that a message may have [default: 65536]
       --verbose            Say more on standard error: what was refused, strange or passed over
+      --keys               Print the key of each EPC as members of its object, as gtin and serial
+      --schemes <SCHEMES>  The schemes of EPCs: all, which has GIAI-96, GSRNP-96, SGCN-96, CPI-96 and USDoD-96 too
   -h, --help               Print help
 
 Connects to an LLRP reader and asks it for its tags: it adds a ROSpec, enables and starts it, polls for
@@ -234,6 +256,10 @@ or with --json an object of JSON for each, a line each:
   {\"epc\":TEXT,\"antenna\":ANTENNA,\"rssi\":RSSI}   a tag; what the reader did not report is left out
   {\"report\":K}
   {\"tags\":TAGS,\"reports\":REPORTS}
+With --keys, which goes with --json, the object of a tag whose EPC has a key ends in its members, as
+  \"gtin\":\"80614141123458\",\"serial\":\"6789\"}
+With --schemes all words of GIAI-96, GSRNP-96, SGCN-96, CPI-96 and USDoD-96 have their tag URIs, which are
+raw URIs without it.
 
 A message or parameter that docs/tables.md leaves out of its set is passed over, and a report that
 has one as a whole. With --all the reader may send every message and parameter of LLRP 1.1, as makers'
@@ -295,6 +321,8 @@ Options:
       --power <DBM>          The most power of its ROSpec, in dBm, as 25.5; without it the reader's own
       --messages             Print each message of the reader as a line of JSON, in place of tags
       --access <FILE>        Send the messages on AccessSpecs of this file too
+      --keys                 Print the key of each EPC as members of its object, as gtin and serial
+      --schemes <SCHEMES>    The schemes of EPCs: all, which has GIAI-96, GSRNP-96, SGCN-96, CPI-96 and USDoD-96 too
   -h, --help                 Print help
 
 Connects to an LLRP reader and prints the tags that it sees for as long as the connection lasts. Each tag
@@ -305,6 +333,9 @@ With --text the lines are
   TEXT ANTENNA RSSI TIME   a tag, as inventory prints it, and that time
 With --messages they are not of tags: each message of the reader, and the fault of each frame that is no
 message, is a line as show --json --all prints it with the same --limit. It cannot be given with --text.
+With --keys the object of a tag whose EPC has a key ends in its members, as for inventory, and with
+--schemes all words of GIAI-96, GSRNP-96, SGCN-96, CPI-96 and USDoD-96 have their tag URIs. --keys cannot
+be given with --text, and neither of them with --messages.
 The reader may send every message and parameter of LLRP 1.1, as makers' Custom ones; what docs/tables.md
 leaves out of its set is left out.
 
@@ -429,8 +460,8 @@ operation is a line with its result by name, and after a read the words in hexad
 AccessSpec and the ROSpec, both with the id 5084, are deleted before and after.
 
 The exit status is 0 if the tag did all operations, and what was read back is what was written; 1 if not, or
-if the reader refuses something or no tag comes; 4 if the connection was lost when the tag may have been
-changed (llrp: unknown, read again); else as ever.
+if the reader refuses something or no tag comes; 4 if a change was asked for and no result of it came, so
+that the tag may have been changed (llrp: unknown, read again); else as ever.
 
 Example:
   $ llrp access reader.example --tag any --read tid:0:6

@@ -2,7 +2,7 @@
 
 use crate::commands::answers;
 use crate::usage::{STOP_HELP, WATCH_HELP};
-use llrp_tool::{NetworkCommand, StopWords, WatchWords, network_command};
+use llrp_tool::{LabelWords, NetworkCommand, StopWords, WatchWords, network_command};
 use std::test::*;
 
 /// Words of `watch` without an option.
@@ -22,6 +22,10 @@ const NO_WORDS: WatchWords<'static> = WatchWords {
     power: None,
     messages: false,
     access: None,
+    labels: LabelWords {
+        keys: false,
+        schemes: None,
+    },
 };
 
 /// Words of `watch` and `stop`, and those commands.
@@ -57,6 +61,8 @@ static ROWS: [(&[&str], NetworkCommand); 5] = [
             "--messages",
             "--access",
             "tid.access",
+            "--keys",
+            "--schemes=most",
         ],
         NetworkCommand::Watch {
             host: "[::1]:5085",
@@ -76,6 +82,10 @@ static ROWS: [(&[&str], NetworkCommand); 5] = [
                 power: Some("-0.5"),
                 messages: true,
                 access: Some("tid.access"),
+                labels: LabelWords {
+                    keys: true,
+                    schemes: Some("most"),
+                },
             },
         },
     ),

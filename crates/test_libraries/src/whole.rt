@@ -1,4 +1,5 @@
-//! Streams and listings with messages and parameters that the profile leaves out, in both sets of kinds, cut anywhere.
+//! Streams and listings with messages and parameters that the profile leaves out, in both sets of kinds, cut
+//! anywhere.
 
 use llrp_tool::{Output, Refusal, ToolErr, Verdict, run_encode_in, run_show_in};
 use llrp_tree::KindSet;
@@ -6,7 +7,8 @@ use std::alloc::Global;
 use std::test::*;
 use test_devices::{Pieces, octets};
 
-/// A frame, its listing among all of LLRP 1.1 and in the profile, and the line at which the profile refuses the first listing.
+/// A frame, its listing among all of LLRP 1.1 and in the profile, and the line at which the profile refuses
+/// the first listing.
 struct Both {
     frame: &'static str,
     whole: &'static str,
@@ -14,8 +16,9 @@ struct Both {
     refused: u64,
 }
 
-/// A report with a maker's parameter after the EPC, a request for capabilities, a configuration with a maker's parameter, a maker's
-/// message, and an AccessSpec whose only operation is a maker's (LLRP 1.1, section 17). Vendor 25882 is Impinj.
+/// A report with a maker's parameter after the EPC, a request for capabilities, a configuration with a
+/// maker's parameter, a maker's message, and an AccessSpec whose only operation is a maker's (LLRP 1.1,
+/// section 17). Vendor 25882 is Impinj.
 const BOTH: [Both; 6] = [
     Both {
         frame: "043D0000002900000001 00F0001F 8D3074257BF7194E4000001A85 03FF000E0000651A000000250001",

@@ -75,8 +75,8 @@ pub fn rospec(rt: &HostRuntime, row: &[String]) -> Result<()> {
     Ok(())
 }
 
-/// The plan of two numbers, or the checked one, which has a `c` before the first; or with `own` in place of the first, that of a
-/// ROSpec of one's own.
+/// The plan of two numbers, or the checked one, which has a `c` before the first; or with `own` in place of
+/// the first, that of a ROSpec of one's own.
 fn made_plan(alloc: Global, every: &str, polls: u16) -> Result<Result<Plan, ToolErr>> {
     if every == "own" {
         return own_plan(alloc, polls);
@@ -116,7 +116,8 @@ pub fn plan(rt: &HostRuntime, row: &[String]) -> Result<()> {
     Ok(())
 }
 
-/// Calls `run_serve`, or `run_serve_all`: the first word has the client's bytes, and the others are the script.
+/// Calls `run_serve`, or `run_serve_all`: the first word has the client's bytes, and the others are the
+/// script.
 pub fn serve(rt: &HostRuntime, row: &[String], all: bool) -> Result<()> {
     let alloc = rt.alloc();
     let [stream, lines @ ..] = row else {

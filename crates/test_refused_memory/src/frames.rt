@@ -122,8 +122,8 @@ pub fn feed(rt: &HostRuntime, row: &[String]) -> Result<()> {
     Ok(())
 }
 
-/// Feeds a decoder the octets of the first word, the front of a frame whose fault they decide, and then, within the
-/// call, as many zeros as the second word says, which are the rest of the frame.
+/// Feeds a decoder the octets of the first word, the front of a frame whose fault they decide, and then,
+/// within the call, as many zeros as the second word says, which are the rest of the frame.
 pub fn skip(rt: &HostRuntime, row: &[String]) -> Result<()> {
     let alloc = rt.alloc();
     let [front, count] = row else {
@@ -211,7 +211,8 @@ pub fn clone(rt: &HostRuntime, row: &[String]) -> Result<()> {
     Ok(())
 }
 
-/// Calls `Node::try_clone` on the first parameter of the message of a frame, and prints the length of the copy.
+/// Calls `Node::try_clone` on the first parameter of the message of a frame, and prints the length of the
+/// copy.
 pub fn clone_node(rt: &HostRuntime, row: &[String]) -> Result<()> {
     let alloc = rt.alloc();
     let message = message_of(alloc, octets(alloc, row)?.as_slice())?;

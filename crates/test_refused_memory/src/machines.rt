@@ -1,5 +1,5 @@
-//! The calls of the reader and the client. Only in the call for the last word is memory refused; the words before it lead
-//! up to that call.
+//! The calls of the reader and the client. Only in the call for the last word is memory refused; the words
+//! before it lead up to that call.
 
 ghost use Rattle.std.specs.Prelude.{IfOk};
 ghost use Rattle.llrp_session.specs.Calls.LawfulWords.{AddsRoSpec};

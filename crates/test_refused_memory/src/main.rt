@@ -1,9 +1,10 @@
-//! Makes one call and prints what it answered, for a test that refuses the call's requests for memory one after another.
+//! Makes one call and prints what it answered, for a test that refuses the call's requests for memory one
+//! after another.
 //!
-//! The first word names the call, and the others are its input. Only the call itself is made between the lines `@refuse`
-//! and `@ample` on standard output: making its input and printing its answer take memory too. The line `answer` has what
-//! the call answered. Where that is Memory, `after` says what state it left, and `again` what the same call then answers
-//! with enough memory.
+//! The first word names the call, and the others are its input. Only the call itself is made between the
+//! lines `@refuse` and `@ample` on standard output: making its input and printing its answer take memory too.
+//! The line `answer` has what the call answered. Where that is Memory, `after` says what state it left, and
+//! `again` what the same call then answers with enough memory.
 #![tactic(auto)]
 
 mod ends;

@@ -1,7 +1,8 @@
 //! A listener that counts the parts of messages.
 
 use llrp_schema::{Field, MsgKind, ParamKind, Tail};
-use llrp_stream::Listener;
+use llrp_stream::{Listener, Stopped};
+use llrp_tree::Fault;
 use std::alloc::AllocError;
 
 /// How many messages and parameters came.
@@ -28,6 +29,8 @@ impl Listener for PartCounter {
     ghost stands = { λ self was t. Unit {0} };
 
     ghost ends = { λ self was m now. Unit {0} };
+
+    ghost faulty = { λ self was t octets fault. Unit {0} };
 
     fn message(
         &mut self,
@@ -72,6 +75,10 @@ impl Listener for PartCounter {
 
     fn end(&mut self) -> Result<(), AllocError> {
         Ok(())
+    }
+
+    fn fault(&mut self, _fault: Fault, _stopped: Option<Stopped>, _octets: &[u8]) {
+        self.give_up();
     }
 
     fn give_up(&mut self) {}
