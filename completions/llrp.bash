@@ -6,7 +6,7 @@ _llrp() {
         # a file, which readline completes where nothing is found here
         *'<' | *'>' | --rospec | --prefixes | --save | --access | --password-file | --answers) return ;;
         # a number, a text, or a list
-        --limit | --antennas | --every | --polls | --reports | --timeout | --id | --keepalive | --again | --for | --name | --power | --bind | --clients | --clock | --prefix-digits | --filter | --segments | --tag | --read | --write | --epc | --lock | --antenna | --settle)
+        --limit | --only | --antennas | --every | --polls | --reports | --timeout | --id | --keepalive | --again | --for | --name | --power | --bind | --clients | --clock | --prefix-digits | --filter | --port | --tag | --read | --write | --epc | --lock | --antenna | --settle)
             compopt +o default
             return
             ;;
@@ -21,18 +21,18 @@ _llrp() {
         words='show encode epc fields explain sim inventory loop watch stop ask access help --help --version'
     else
         case ${COMP_WORDS[1]} in
-            show) words='--hex --all --json --names --keys --schemes --segments --limit --help' ;;
+            show) words='--hex --all --json --names --keys --schemes --segments --port --limit --help' ;;
             encode) words='--hex --all --json --keys --schemes --limit --help' ;;
-            inventory) words='--rospec --every --polls --reports --check --clean --json --all --timeout --limit --verbose --help' ;;
+            inventory) words='--rospec --every --polls --reports --check --clean --json --all --timeout --limit --verbose --keys --schemes --help' ;;
             loop) words='--rospec --every --polls --reports --check --clean --json --all --help' ;;
-            watch) words='--rospec --id --every --keepalive --again --text --antennas --limit --save --verbose --for --name --power --messages --access --help' ;;
+            watch) words='--rospec --id --every --keepalive --again --text --antennas --limit --save --verbose --for --name --power --messages --access --keys --schemes --help' ;;
             stop) words='--rospec --id --timeout --help' ;;
             ask) words='--json --timeout --go-on --raw --help' ;;
             access) words='--tag --read --write --epc --lock --password-file --verify --antenna --settle --timeout --json --help' ;;
-            sim) words='--all --bind --clients --clock --answers --ready --help' ;;
+            sim) words='--all --bind --clients --clock --answers --ready --keep --help' ;;
             fields) words='--all --help' ;;
-            explain) words='--hex --all --limit --help' ;;
-            epc) words='--forms --list --json --to --prefix-digits --filter --prefixes --help' ;;
+            explain) words='--hex --all --json --limit --only --help' ;;
+            epc) words='--forms --list --json --to --prefix-digits --filter --prefixes --schemes --help' ;;
             help) words='show encode epc fields explain sim inventory loop watch stop ask access' ;;
         esac
     fi

@@ -13,4 +13,4 @@ else
     shift 2
 fi
 tshark -n -r "$file" -o tcp.desegment_tcp_streams:FALSE -Y "tcp.port == $port" -T fields -e frame.time_epoch -e tcp.stream -e ip.src \
-    -e ipv6.src -e tcp.srcport -e tcp.flags -e tcp.seq -e tcp.payload | "${LLRP:-llrp}" show --segments "$port" "$@"
+    -e ipv6.src -e tcp.srcport -e tcp.flags -e tcp.seq -e tcp.payload | "${LLRP:-llrp}" show --segments --port "$port" "$@"

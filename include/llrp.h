@@ -11,9 +11,9 @@
  *  - Texts are octets with a length. No zero octet ends them, neither those that are passed nor those that are written.
  *
  * No call keeps anything between two calls, so calls from several threads need no lock. The functions of listings and of JSON (llrp_list,
- * llrp_list_json, llrp_next, llrp_next_json, llrp_encode, llrp_encode_json and their _all), llrp_tags and llrp_forms take memory by malloc,
- * and free it before they return; the others take none. Lengths are counted in octets, bits from 0, and bit 0 is the most significant one of
- * the first octet.
+ * llrp_list_json, llrp_next, llrp_next_json, llrp_explain, llrp_encode, llrp_encode_json and their _all), llrp_tags and llrp_forms take memory
+ * by malloc, and free it before they return; the others take none. Lengths are counted in octets, bits from 0, and bit 0 is the most
+ * significant one of the first octet.
  */
 #ifndef LLRP_H
 #define LLRP_H
@@ -60,7 +60,7 @@ enum llrp_status {
     LLRP_ROOM = 3,   /* the room is too small */
     LLRP_LENGTH = 4, /* an argument does not have the length that the call needs */
     LLRP_UTF8 = 5,   /* the text is not UTF-8 */
-    LLRP_LONG = 6,   /* the text has more than 96 octets; only llrp_word_of_key returns it */
+    LLRP_LONG = 6,   /* the text has more than 96 octets; only llrp_word_of_key and llrp_word_in_all return it */
     LLRP_MEMORY = 7, /* memory ran out */
     LLRP_MORE = 8,   /* the stream has less than a frame; only llrp_next and its like return it */
 
@@ -70,6 +70,8 @@ enum llrp_status {
     LLRP_PREFIX = 18,    /* the company prefix has too many digits */
     LLRP_REFERENCE = 19, /* the reference has too many digits */
     LLRP_ZEROS = 20,     /* bits that must be zero are not */
+    LLRP_SERIAL = 21,    /* the last part is not a 1 and a serial number; only llrp_text_in_all returns it */
+    LLRP_CODE = 22,      /* the code of a USDoD-96 has a wrong character or count; only llrp_text_in_all and llrp_word_in_all return it */
 
     /* The first rule that refuses a tag URI or a raw URI. */
     LLRP_START = 32,
@@ -140,6 +142,29 @@ uint32_t llrp_text_of_word(const uint8_t *word, size_t word_length, uint8_t *tex
  * LLRP_OK, or the first rule that refuses the text, LLRP_START to LLRP_RAW_OF_LAWFUL. LLRP_LENGTH if word_length is not
  * LLRP_WORD_OCTETS, else LLRP_UTF8 if the text is not UTF-8. Nothing is written unless the status is LLRP_OK. */
 uint32_t llrp_word_of_text(const uint8_t *text, size_t text_length, uint8_t *word, size_t word_length);
+
+/* The same as llrp_text_of_word in the set of all schemes: a word of GIAI-96, GSRNP-96, SGCN-96, CPI-96 or USDoD-96 has its
+ * tag URI too, as urn:epc:tag:giai-96:3.0614141.5678.
+ *
+ * word         the twelve octets of the word, the first the most significant
+ * word_length  LLRP_WORD_OCTETS
+ * text         room for the text; octets after it stay as they were
+ * text_room    at least LLRP_TEXT_ROOM
+ *
+ * LLRP_OK, or one of LLRP_HEADER to LLRP_CODE where the word has no tag URI: then its raw URI is written, and *bit is the first bit
+ * of the part of the word that fails. LLRP_LENGTH if word_length is wrong, else LLRP_ROOM if text_room is too small; then
+ * nothing is written, and *count and *bit stay as they were. */
+uint32_t llrp_text_in_all(const uint8_t *word, size_t word_length, uint8_t *text, size_t text_room, size_t *count, uint32_t *bit);
+
+/* The same as llrp_word_of_text in the set of all schemes.
+ *
+ * text         a tag URI, or the raw URI of a word that has no tag URI in this set
+ * word         room for the word
+ * word_length  LLRP_WORD_OCTETS
+ *
+ * LLRP_OK, or the first rule that refuses the text, LLRP_LONG, LLRP_CODE or LLRP_START to LLRP_RAW_OF_LAWFUL. LLRP_LENGTH if word_length
+ * is not LLRP_WORD_OCTETS, else LLRP_UTF8 if the text is not UTF-8. Nothing is written unless the status is LLRP_OK. */
+uint32_t llrp_word_in_all(const uint8_t *text, size_t text_length, uint8_t *word, size_t word_length);
 
 /* Writes a line for each form of a tag's word to lines, as `llrp epc --forms` prints them, and their length to *written: the name of the
  * form, a blank and the text. The names are tag, pure, element, link, hex and key (docs/tables.md); a word has tag and hex, and the others
@@ -242,6 +267,24 @@ uint32_t llrp_next_json(const uint8_t *stream, size_t stream_length, uint8_t *li
 
 /* The same with every message and parameter of LLRP 1.1, as `llrp show --all --json` prints them. */
 uint32_t llrp_next_json_all(const uint8_t *stream, size_t stream_length, uint8_t *lines, size_t lines_room, size_t *used, size_t *written);
+
+/* Writes what `llrp explain` prints of octets to text, and its length to *written: of each frame that is a message a line for each field, with
+ * its bit, width, level, name and value, and of any other frame the fields before its first fault, those that are refused, and a sentence with
+ * what stands there and what may. Of less than a frame at the end there is the line ? N, and of a length field below 10 the line ! BROKEN.
+ *
+ * octets         the octets of one frame, or of a stream from the first one of a frame on, lawful or not
+ * octets_length  how many there are
+ * text           room for the text; octets after it stay as they were
+ * text_room      how many octets of room there are
+ * written        where the number of octets of the text is written
+ *
+ * LLRP_OK if the octets are frames, each of them whole and a message; else LLRP_FAULTY, and the text says why.
+ * LLRP_ROOM if the text is longer than the room: nothing is written to text, and *written is the room that it needs.
+ * LLRP_MEMORY: nothing is written, *written is 0. */
+uint32_t llrp_explain(const uint8_t *octets, size_t octets_length, uint8_t *text, size_t text_room, size_t *written);
+
+/* The same with every message and parameter of LLRP 1.1, as `llrp explain --all` has them, in place of those of the profile. */
+uint32_t llrp_explain_all(const uint8_t *octets, size_t octets_length, uint8_t *text, size_t text_room, size_t *written);
 
 /* Writes what a report says of its tags to tags, one for each TagReportData and in their order, and how many they are to *written.
  *

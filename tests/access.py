@@ -1,7 +1,7 @@
 #!/usr/bin/env python3
 """Runs `access` against a reader with tags that have memory of their own: banks, passwords and locks. Its rows read a TID, write and verify
 user memory, give a new EPC, lock, and go wrong in each way that has a name: a wrong password, a locked bank, a bank too short, two tags, no
-tag, a status with a text, a lost connection. Then a thousand tags each get an EPC and a word, which are verified.
+tag, a status with a text, a lost connection, no report. Then a thousand tags each get an EPC and a word, which are verified.
 
 usage: tests/access.py [PROGRAM]
 
@@ -231,6 +231,25 @@ class Reader:
         client.sendall(frame(KEEPALIVE, 7))
 
 
+class Mute(Reader):
+    """A reader that reports nothing once its AccessSpec is enabled."""
+
+    def report(self, client):
+        if not self.enabled:
+            super().report(client)
+
+
+class Late(Mute):
+    """A reader that reports what its AccessSpec did only after it was deleted."""
+
+    def answer(self, client, kind, number, body):
+        done = self.results(self.tags[0]) if kind == DELETE_ACCESS and self.enabled else b""
+        ended = super().answer(client, kind, number, body)
+        if done:
+            client.sendall(frame(REPORTS, 0, parameter(240, b"\x8d" + OLD + done)))
+        return ended
+
+
 def run(reader, *words):
     """Status, standard output and standard error of `access`."""
     done = subprocess.run([PROGRAM, "access", f"127.0.0.1:{reader.port}", *words], capture_output=True, timeout=LONGEST, check=False, text=True)
@@ -277,7 +296,7 @@ def changes():
     result = run(reader, "--tag", OLD_URI, "--write", "user:1=1234ABCD", "--verify")
     yield "a write", result == (0, "write user:1 Success\nread user:1:2 Success 1234abcd\n", "")
     yield "the tag's memory", tag.banks[3][:4] == [0, 0x1234, 0xABCD, 0]
-    yield "the time for further tags", 1 <= time.monotonic() - start < 4
+    yield "the time for further tags", 1 <= time.monotonic() - start < 8
     yield "the requests of a change", kinds(reader) == WHOLE
     tag = Tag(OLD)
     result = run(Reader(tag), "--tag", OLD_URI, "--epc", NEW_URI, "--verify")
@@ -325,7 +344,7 @@ def bad_ends():
     reader = Reader()
     start = time.monotonic()
     result = run(reader, "--tag", OLD.hex(), "--read", "tid:0:1", "--timeout", "1")
-    yield "no tag", result == (1, "", "llrp: no tag\n") and 1 <= time.monotonic() - start < 4 and kinds(reader) == WHOLE
+    yield "no tag", result == (1, "", "llrp: no tag\n") and 1 <= time.monotonic() - start < 8 and kinds(reader) == WHOLE
     reader = Reader(second)
     result = run(reader, "--tag", OLD.hex(), "--lock", "user=lock", "--timeout", "1")
     yield "another tag", result == (1, "", "llrp: no tag\n") and kinds(reader) == UNDONE
@@ -348,6 +367,24 @@ def bad_ends():
     yield "one lost in a read", result == (1, "", "llrp: early\n")
     result = run(Reader(tag, breaks=(CLOSE, False)), "--tag", "any", "--read", "tid:0:1")
     yield "one lost at the end", result == (0, "read tid:0:1 Success e200\n", "")
+
+
+def silences():
+    """Readers that take the AccessSpec, and report nothing in time."""
+    reader = Mute(Tag(OLD))
+    result = run(reader, "--tag", OLD_URI, "--write", "user:0=0001", "--timeout", "1")
+    yield "a write without a report", result == (4, "", "llrp: unknown, read again\n") and kinds(reader) == WHOLE
+    result = run(Mute(Tag(OLD)), "--tag", "any", "--lock", "user=lock", "--timeout", "1")
+    yield "a lock without a report", result == (4, "", "llrp: unknown, read again\n")
+    reader = Mute(Tag(OLD))
+    result = run(reader, "--tag", "any", "--read", "tid:0:1", "--timeout", "1")
+    yield "a read without a report", result == (1, "", "llrp: no tag\n") and kinds(reader) == WHOLE
+    reader = Mute(Tag(OLD), answers={ENABLE_ACCESS: (100, "")})
+    result = run(reader, "--tag", "any", "--write", "user:0=0001")
+    yield "an AccessSpec that is not enabled", result == (1, "", "llrp: status 100\n") and kinds(reader) == WHOLE
+    reader = Late(Tag(OLD))
+    result = run(reader, "--tag", "any", "--write", "user:0=0001", "--timeout", "1")
+    yield "a report that comes late", result == (0, "write user:0 Success\n", "") and kinds(reader) == WHOLE
 
 
 def bad_words():
@@ -393,7 +430,7 @@ def labels():
 
 
 def main():
-    results = [*reads(), *changes(), *bad_ends(), *bad_words(), *labels()]
+    results = [*reads(), *changes(), *bad_ends(), *silences(), *bad_words(), *labels()]
     return finish_results(results, LEAST)
 
 

@@ -184,17 +184,17 @@ def waits():
     start = time.monotonic()
     result = run(reader.port, text(VENDOR, DELETE_ROSPEC), "--timeout", "1")
     yield "a CUSTOM_MESSAGE without an answer", result == (0, shown(reader.said), "") and reader.heard() == octets(VENDOR, DELETE_ROSPEC)
-    yield "its time", 1 <= time.monotonic() - start < 4
+    yield "its time", 1 <= time.monotonic() - start < 8
     answer = frame(CUSTOM, 5, bytes.fromhex("0000651A160A"))
     reader = Reader({CUSTOM: [(0.2, answer)]})
     start = time.monotonic()
     result = run(reader.port, text(VENDOR, DELETE_ROSPEC), "--timeout", "9")
-    yield "a CUSTOM_MESSAGE with an answer", result == (0, shown(reader.said), "") and time.monotonic() - start < 4
+    yield "a CUSTOM_MESSAGE with an answer", result == (0, shown(reader.said), "") and time.monotonic() - start < 8
     reader = Reader({60: [(0.3, REPORT), (0.3, REPORT), (0.3, frame(KEEPALIVE, 78, version=2))]})
     result = run(reader.port, text(GET_REPORT) + "= 1.5s\n" + text(DELETE_ROSPEC))
     yield "a pause", result == (0, shown(reader.said), "") and result[1].count(b"\n0 RO_ACCESS_REPORT 1 5\n") == 2
     yield "its acknowledgement", reader.heard() == [*octets(GET_REPORT), frame(ACK, 78, version=2), *octets(DELETE_ROSPEC)]
-    yield "its length", 1.5 <= reader.times[2] - reader.times[0] < 3
+    yield "its length", 1.5 <= reader.times[2] - reader.times[0] < 6
     reader = Reader()
     result = run(reader.port, "= 0s\n= 0.1s\n" + text(GET_CAPABILITIES) + "= 0.1s\n= 0.1s\n")
     yield "pauses in a row", result[::2] == (0, "") and reader.heard() == octets(GET_CAPABILITIES)
@@ -221,7 +221,7 @@ def bad_ends():
     reader = Reader({CAPABILITIES: alive})
     start = time.monotonic()
     result = run(reader.port, text(*requests), "--timeout", "1")
-    yield "no response", result[::2] == (3, "llrp: read\n") and 1 <= time.monotonic() - start < 3
+    yield "no response", result[::2] == (3, "llrp: read\n") and 1 <= time.monotonic() - start < 5
     yield "nothing is sent then", reader.heard()[:1] == octets(GET_CAPABILITIES) and all(it[1] == ACK for it in reader.heard()[1:])
     reader = Reader({CAPABILITIES: [(0, frame(11, 2, status(0)) + frame(12, 1, status(0))), (5, None)]})
     result = run(reader.port, text(*requests), "--timeout", "1")

@@ -43,17 +43,23 @@ PROMISES = {
     KEYS: "tag_keys::print_id tag_keys::parse_id tag_keys::print_key tag_keys::parse_key tag_keys::digits_from_company"
                " tag_keys::laws::one_check_digit"
                " tag_keys::laws::slips_are_refused tag_keys::laws::one_id_uri tag_keys::laws::one_key_text tag_keys::laws::one_fault"
-               " tag_schemes::numbers_of tag_schemes::word_of tag_schemes::print_further tag_schemes::text_in_all tag_schemes::word_in_all"
-               " tag_schemes::laws::sets_are_apart tag_schemes::laws::one_further_epc tag_schemes::laws::one_text_in_all"
+               " tag_schemes::numbers_of tag_schemes::word_of tag_schemes::supplier_of tag_schemes::word_of_supplier tag_schemes::print_further"
+               " tag_schemes::print_supplier tag_schemes::text_in_all tag_schemes::word_in_all"
+               " tag_schemes::fault_in_all tag_schemes::laws::sets_are_apart tag_schemes::laws::one_further_epc tag_schemes::laws::one_text_in_all"
+               " tag_schemes::laws::one_word_fault_in_all"
+               " tag_scheme_keys::print_id_in tag_scheme_keys::parse_id_in tag_scheme_keys::print_key_in tag_scheme_keys::parse_key_in"
+               " tag_scheme_keys::from_company_in tag_scheme_keys::laws::one_id_uri_in tag_scheme_keys::laws::one_key_text_in"
                " tag_forms::text_in tag_forms::word_in tag_forms::form_of tag_forms::push_answer tag_forms::push_forms"
+               " tag_forms::form_in_all tag_forms::read_in_all tag_forms::AllFault::name tag_forms::push_forms_in_all tag_forms::push_refusal_in_all"
                " tag_forms::push_object_answer tag_forms::push_wanted tag_forms::Company::digits_of"
                " tag_forms::TextList::take tag_forms::TextList::end tag_forms::Prefixes::add tag_forms::Prefixes::company_digits"
                " tag_forms::laws::one_text_in_form tag_forms::laws::one_word_in_form tag_forms::laws::one_fault_in_form"
-               " llrp_keys::run_forms llrp_keys::run_answer llrp_keys::run_list llrp_keys::read_prefixes llrp_keys::named_key_of"
+               " llrp_keys::run_forms llrp_keys::run_answer llrp_keys::run_list llrp_keys::run_epc_in_all llrp_keys::read_prefixes"
+               " llrp_keys::named_key_of llrp_labels::label_tags"
                " llrp_labels::label_text llrp_labels::plain_text llrp_labels::list_labelled llrp_labels::run_show_labelled"
                " llrp_labels::read_plain llrp_labels::laws::one_labelled_line llrp_labels::laws::keys_follow_lines"
                " llrp_labels::laws::labels_come_off"
-               " llrp_c::llrp_forms llrp_c::llrp_word_of_key",
+               " llrp_c::llrp_forms llrp_c::llrp_word_of_key llrp_c::llrp_text_in_all llrp_c::llrp_word_in_all",
 }
 
 # What a promise rests on besides: `sim --all`, clients without an end, and what makes a script and a plan.
@@ -66,11 +72,12 @@ BESIDES = {
                    " llrp_endpoints::TagLister::new llrp_endpoints::TagLister::feed llrp_json::push_parameters",
 }
 
-# From the words of a command to the calls of the promises, and to their exit statuses and error lines.
+# From the words of a command to the calls of the promises, and to their exit statuses and error lines; captures are beside the promises.
 WORDS = "words to calls"
 ALL = "1 to 11, and words to calls"
 COMMANDS = {
-    WORDS: "llrp_commands::run_command llrp_commands::network_command llrp_commands::write_refusal llrp::plan_of llrp::read_plan"
+    WORDS: "llrp_commands::run_command/show/encode/names/labels_shown/labels_encoded/epc/options/file/fields/explain/refused/elsewhere/errors"
+           " llrp_commands::network_command llrp_commands::write_refusal llrp::plan_of llrp::read_plan"
            " llrp::made_plan llrp::watch_plan llrp_endpoints::Script::read",
 }
 

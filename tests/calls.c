@@ -16,11 +16,15 @@ static uint32_t (*const next)(const uint8_t *, size_t, uint8_t *, size_t, size_t
 static uint32_t (*const next_all)(const uint8_t *, size_t, uint8_t *, size_t, size_t *, size_t *) = llrp_next_all;
 static uint32_t (*const next_json)(const uint8_t *, size_t, uint8_t *, size_t, size_t *, size_t *) = llrp_next_json;
 static uint32_t (*const next_json_all)(const uint8_t *, size_t, uint8_t *, size_t, size_t *, size_t *) = llrp_next_json_all;
+static uint32_t (*const explain)(const uint8_t *, size_t, uint8_t *, size_t, size_t *) = llrp_explain;
+static uint32_t (*const explain_all)(const uint8_t *, size_t, uint8_t *, size_t, size_t *) = llrp_explain_all;
 static uint32_t (*const tags)(const uint8_t *, size_t, struct llrp_tag *, size_t, size_t *) = llrp_tags;
 static uint32_t (*const encode)(const uint8_t *, size_t, uint8_t *, size_t, size_t *, uint64_t *) = llrp_encode;
 static uint32_t (*const encode_all)(const uint8_t *, size_t, uint8_t *, size_t, size_t *, uint64_t *) = llrp_encode_all;
 static uint32_t (*const encode_json)(const uint8_t *, size_t, uint8_t *, size_t, size_t *, uint64_t *, uint8_t *, size_t, size_t *) = llrp_encode_json;
 static uint32_t (*const encode_json_all)(const uint8_t *, size_t, uint8_t *, size_t, size_t *, uint64_t *, uint8_t *, size_t, size_t *) = llrp_encode_json_all;
+static uint32_t (*const text_in_all)(const uint8_t *, size_t, uint8_t *, size_t, size_t *, uint32_t *) = llrp_text_in_all;
+static uint32_t (*const word_in_all)(const uint8_t *, size_t, uint8_t *, size_t) = llrp_word_in_all;
 static uint32_t (*const forms)(const uint8_t *, size_t, uint8_t *, size_t, size_t *) = llrp_forms;
 static uint32_t (*const word_of_key)(const uint8_t *, size_t, uint32_t, uint32_t, uint8_t *, size_t, uint32_t *) = llrp_word_of_key;
 static size_t (*const name_of)(uint32_t, uint8_t *, size_t) = llrp_name;
@@ -31,6 +35,14 @@ static const char TEXT[] = "urn:epc:tag:sgtin-96:3.0614141.812345.6789";
 static const uint8_t STREAM[] = {8, 0x3E, 0, 0, 0, 10, 0, 0, 0, 7, 8, 0x3E, 0, 0, 0, 10, 0, 0, 0, 8, 8};
 static const char LISTING[] = "0 KEEPALIVE 2 7\n0 KEEPALIVE 2 8\n";
 static const char REFUSED[] = "0 KEEPALIVE 2 7\n0 KEEPALIV 2 7\n";
+/* A word of SGCN-96 and its text, the same word without a serial number, and its raw URI. */
+static const uint8_t COUPON[] = {0x3F, 0x74, 0xF4, 0xE4, 0xE6, 0x12, 0x64, 0x00, 0x00, 0x01, 0x99, 0x07};
+static const char COUPON_TEXT[] = "urn:epc:tag:sgcn-96:3.4012345.67890.04711";
+static const uint8_t NO_COUPON[] = {0x3F, 0x74, 0xF4, 0xE4, 0xE6, 0x12, 0x64, 0x00, 0x00, 0x00, 0x00, 0x01};
+static const char NO_COUPON_TEXT[] = "urn:epc:raw:96.x3F74F4E4E612640000000001", COUPON_RAW[] = "urn:epc:raw:96.x3F74F4E4E612640000019907";
+/* A word of USDoD-96 and its text, and a text whose code has an I. */
+static const uint8_t SUPPLIER[] = {0x2F, 0x32, 0x03, 0x25, 0x33, 0x13, 0x93, 0x42, 0xDF, 0xDC, 0x1C, 0x35};
+static const char SUPPLIER_TEXT[] = "urn:epc:tag:usdod-96:3.2S194.12345678901", NO_CODE[] = "urn:epc:tag:usdod-96:3.2I194.12345678901";
 /* The forms of the word, its key, and the key with a wrong check digit. */
 static const char FORMS[] = "tag urn:epc:tag:sgtin-96:3.0614141.812345.6789\npure urn:epc:id:sgtin:0614141.812345.6789\n"
                             "element (01)80614141123458(21)6789\nlink https://id.gs1.org/01/80614141123458/21/6789\n"
@@ -44,6 +56,15 @@ static const char REQUEST_LISTING[] = "0 GET_READER_CAPABILITIES 2 7 0\n";
 static const char LINES[] = "{\"message\":\"KEEPALIVE\",\"version\":2,\"id\":7}\n{\"message\":\"KEEPALIVE\",\"version\":2,\"id\":8}\n";
 static const char FAULT_LINE[] = "{\"fault\":\"MessageType\",\"id\":7,\"bit\":6}\n";
 static const char REQUEST_LINE[] = "{\"message\":\"GET_READER_CAPABILITIES\",\"version\":2,\"id\":7,\"RequestedData\":0}\n";
+/* The fields of the first frame, of both with the octet after them, and of that message, with the profile alone too. */
+#define COLUMNS "BIT WIDTH LEVEL FIELD VALUE\n"
+#define KEEPALIVE_LINES "0 3 0 reserved 0\n3 3 0 Version 2\n6 10 0 MessageType 62\n16 32 0 MessageLength 10\n48 32 0 MessageID "
+static const char EXPLAINED[] = "frame 1, 10 octets\n" COLUMNS KEEPALIVE_LINES "7\n";
+static const char STREAM_EXPLAINED[] = "frame 1, 10 octets\n" COLUMNS KEEPALIVE_LINES "7\nframe 2, 10 octets\n" COLUMNS KEEPALIVE_LINES "8\n? 1\n";
+static const char FAULT_EXPLAINED[] = "frame 1, 11 octets\n" COLUMNS "then, refused:\n0 3 0 reserved 0\n3 3 0 Version 2\n6 10 0 MessageType 1\n"
+                                      "fault at bit 6, octet 0: MessageType: 1 is of no message of the profile\n";
+static const char REQUEST_EXPLAINED[] = "frame 1, 11 octets\n" COLUMNS "0 3 0 reserved 0\n3 3 0 Version 2\n6 10 0 MessageType 1\n"
+                                        "16 32 0 MessageLength 11\n48 32 0 MessageID 7\n80 8 0 RequestedData 0\n";
 /* A report of a tag of which all is said that a struct llrp_tag has, with a custom parameter, and of one of which only an EPCData of
  * eight bits is. */
 static const uint8_t REPORT[] = {4, 61, 0, 0, 0, 70, 0, 0, 0, 1,
@@ -91,6 +112,29 @@ static void check_tags(void) {
     check("word, too little room", status == LLRP_LENGTH && holds("", 0));
     check("name", name_of(LLRP_NODE_MISSING, out, LLRP_NAME_ROOM) == 12 && holds("Node Missing", 12));
     check("name, too little room", name_of(LLRP_NODE_MISSING, out, LLRP_NAME_ROOM - 1) == 0 && holds("", 0));
+}
+
+static void check_all_schemes(void) {
+    enum { COUPON_LENGTH = sizeof COUPON_TEXT - 1, RAW_LENGTH = sizeof COUPON_RAW - 1 };
+    size_t count = 99;
+    uint32_t bit = 99, status = text_in_all(COUPON, sizeof COUPON, out, LLRP_TEXT_ROOM, &count, &bit);
+    check("text of a coupon", status == LLRP_OK && count == COUPON_LENGTH && bit == 0 && holds(COUPON_TEXT, COUPON_LENGTH));
+    status = text_in_all(NO_COUPON, sizeof NO_COUPON, out, LLRP_TEXT_ROOM, &count, &bit);
+    check("no serial number", status == LLRP_SERIAL && count == RAW_LENGTH && bit == 55 && holds(NO_COUPON_TEXT, RAW_LENGTH));
+    status = text_in_all(COUPON, sizeof COUPON, out, LLRP_TEXT_ROOM - 1, &count, &bit);
+    check("text of a coupon, too little room", status == LLRP_ROOM && bit == 55 && holds("", 0));
+    status = text_of_word(COUPON, sizeof COUPON, out, LLRP_TEXT_ROOM, &count, &bit);
+    check("a coupon among the seven schemes", status == LLRP_HEADER && bit == 0 && holds(COUPON_RAW, RAW_LENGTH));
+    status = word_in_all(octets_of(COUPON_TEXT), COUPON_LENGTH, out, LLRP_WORD_OCTETS);
+    check("word of a coupon", status == LLRP_OK && holds(COUPON, sizeof COUPON));
+    status = word_in_all(octets_of(COUPON_RAW), RAW_LENGTH, out, LLRP_WORD_OCTETS);
+    check("the raw URI of a coupon", status == LLRP_RAW_OF_LAWFUL && holds("", 0));
+    status = text_in_all(SUPPLIER, sizeof SUPPLIER, out, LLRP_TEXT_ROOM, &count, &bit);
+    check("text of a supplier", status == LLRP_OK && bit == 0 && holds(SUPPLIER_TEXT, sizeof SUPPLIER_TEXT - 1));
+    status = word_in_all(octets_of(NO_CODE), sizeof NO_CODE - 1, out, LLRP_WORD_OCTETS);
+    check("no code", status == LLRP_CODE && holds("", 0));
+    status = word_in_all(octets_of(COUPON_TEXT), COUPON_LENGTH, out, LLRP_WORD_OCTETS - 1);
+    check("word of a coupon, too little room", status == LLRP_LENGTH && holds("", 0));
 }
 
 static void check_keys(void) {
@@ -181,6 +225,28 @@ static void check_next(void) {
     check("next of all in JSON", status == LLRP_OK && used == sizeof REQUEST && holds(REQUEST_LINE, sizeof REQUEST_LINE - 1));
 }
 
+static void check_explain(void) {
+    enum { LENGTH = sizeof EXPLAINED - 1, STREAM_LENGTH = sizeof STREAM_EXPLAINED - 1, FAULT_LENGTH = sizeof FAULT_EXPLAINED - 1, ALL_LENGTH = sizeof REQUEST_EXPLAINED - 1 };
+    const uint8_t broken[] = {8, 0x3E, 0, 0, 0, 9, 0, 0, 0, 7, 8};
+    size_t written = 99;
+    uint32_t status = explain(STREAM, 10, out, LENGTH, &written);
+    check("explain", status == LLRP_OK && written == LENGTH && holds(EXPLAINED, LENGTH));
+    status = explain(STREAM, 10, out, LENGTH - 1, &written);
+    check("explain, too little room", status == LLRP_ROOM && written == LENGTH && holds("", 0));
+    status = explain(STREAM, sizeof STREAM, out, sizeof out, &written);
+    check("explain less than a frame", status == LLRP_FAULTY && written == STREAM_LENGTH && holds(STREAM_EXPLAINED, STREAM_LENGTH));
+    status = explain(broken, sizeof broken, out, sizeof out, &written);
+    check("explain a break", status == LLRP_FAULTY && written == 9 && holds("! BROKEN\n", 9));
+    status = explain(STREAM, 0, out, sizeof out, &written);
+    check("explain no octets", status == LLRP_OK && written == 0 && holds("", 0));
+    status = explain(REQUEST, sizeof REQUEST, out, sizeof out, &written);
+    check("explain another message", status == LLRP_FAULTY && written == FAULT_LENGTH && holds(FAULT_EXPLAINED, FAULT_LENGTH));
+    status = explain_all(REQUEST, sizeof REQUEST, out, ALL_LENGTH, &written);
+    check("explain all", status == LLRP_OK && written == ALL_LENGTH && holds(REQUEST_EXPLAINED, ALL_LENGTH));
+    status = explain_all(REQUEST, sizeof REQUEST, out, ALL_LENGTH - 1, &written);
+    check("explain all, too little room", status == LLRP_ROOM && written == ALL_LENGTH && holds("", 0));
+}
+
 /* Whether two structs of a tag say the same. */
 static int same_tag(const struct llrp_tag *a, const struct llrp_tag *b) {
     return a->has == b->has && a->first_seen == b->first_seen && a->antenna == b->antenna && a->count == b->count && a->rssi == b->rssi
@@ -225,11 +291,13 @@ static void check_octets_of_json(void) {
 int main(void) {
     clear();
     check_tags();
+    check_all_schemes();
     check_keys();
     check_streams();
     check_all();
     check_json();
     check_next();
+    check_explain();
     check_reports();
     check_octets_of_json();
     printf("%d passed, %d failed\n", passed, failed);

@@ -18,7 +18,7 @@ import tempfile
 from parts.counting import finish_results
 from parts.repository import TOP, program_given
 
-LEAST = 43
+LEAST = 55
 FIN, SYN, PSH, ACK = 1, 2, 8, 16
 KEEPALIVE = [bytes.fromhex("083E0000000A") + struct.pack(">I", number) for number in range(40)]
 REPORT = bytes.fromhex("043D0000001B0000000100F000118D3074257BF7194E4000001A85")
@@ -152,7 +152,7 @@ def by_tshark(program, segments, words=()):
 def of_captures(program):
     """Yields what was compared, of whole captures and of such with a gap or a late start, and whether it is right."""
     segments, sides = two_readers()
-    for what, listing in [("lines", run(program, ["--segments", "5084"], lines_of(segments)).stdout.decode()),
+    for what, listing in [("lines", run(program, ["--segments"], lines_of(segments)).stdout.decode()),
                           ("tshark", by_tshark(program, segments))]:
         for side, octets in sides:
             yield f"{what}: stream {side.stream}, reader {side.reader}", of_side(listing, side) == listed(program, octets)
@@ -160,22 +160,42 @@ def of_captures(program):
         yield f"{what}: in the order of the capture", times == sorted(times) and len(times) == 11
         yield f"{what}: the time of the last segment of a frame", times[0] == time_of(5)
     segments, side = with_gap()
-    for what, listing in [("lines", run(program, ["--segments", "5084"], lines_of(segments)).stdout.decode()),
+    for what, listing in [("lines", run(program, ["--segments"], lines_of(segments)).stdout.decode()),
                           ("tshark", by_tshark(program, segments))]:
         wanted = listed(program, KEEPALIVE[0]) + "? GAP 20\n" + listed(program, KEEPALIVE[3] + KEEPALIVE[4])
         yield f"{what}: a gap", of_side(listing, side) == wanted
     segments, side = late()
-    for what, listing in [("lines", run(program, ["--segments", "5084"], lines_of(segments)).stdout.decode()),
+    for what, listing in [("lines", run(program, ["--segments"], lines_of(segments)).stdout.decode()),
                           ("tshark", by_tshark(program, segments))]:
         wanted = f"? GAP {len(REPORT) - 4}\n" + listed(program, b"".join(KEEPALIVE[:3]))
         yield f"{what}: a late start", of_side(listing, side) == wanted
+
+
+def of_long_frames(program):
+    """Yields that of frames that are longer than a message may be, whole or not, a side's lines are those of `show`."""
+    long = bytes.fromhex("043D00000040") + bytes(range(58))
+    for what, stream, pieces in [("whole", KEEPALIVE[0] + long + KEEPALIVE[1], [3, 14, 17, 30, 73, 80]), ("at once", long + KEEPALIVE[1], []),
+                                 ("two", long + long + KEEPALIVE[1], [64, 70]), ("not whole", KEEPALIVE[0] + long[:40], [16]),
+                                 ("no header", KEEPALIVE[0] + long[:8], [17]), ("a length below ten", KEEPALIVE[0] + long[:4] + bytes(12), [14])]:
+        side, _ = connection(0, ("192.0.2.17", 5084), ("192.0.2.1", 40000))
+        cuts = [0, *pieces, len(stream)]
+        segments = [side.send(flags=SYN | ACK), *(side.send(stream[a:b]) for a, b in zip(cuts, cuts[1:]))]
+        for words in (["--limit", "30"], ["--limit", "30", "--json"]):
+            made = run(program, ["--segments", *words], lines_of(segments))
+            wanted = run(program, words, stream)
+            if "--json" in words:
+                mine = [{key: value for key, value in json.loads(it).items() if key not in ("time", "stream", "from")} for it in made.stdout.splitlines()]
+                is_right = mine == [json.loads(it) for it in wanted.stdout.splitlines()]
+            else:
+                is_right = of_side(made.stdout.decode(), side) == wanted.stdout.decode()
+            yield f"a long frame, {what}: {words}", is_right and made.returncode == wanted.returncode
 
 
 def of_json(program):
     """Yields the same of lines of JSON: each has the members of the line that `show --json` prints, after three more."""
     segments, sides = two_readers()
     for words in ([], ["--all"]):
-        made = run(program, ["--segments", "5084", "--json", *words], lines_of(segments)).stdout.decode()
+        made = run(program, ["--segments", "--json", *words], lines_of(segments)).stdout.decode()
         objects = [json.loads(it) for it in made.splitlines()]
         yield f"JSON {words}: the members before", all(list(it)[:3] == ["time", "stream", "from"] for it in objects)
         for side, octets in sides:
@@ -185,7 +205,7 @@ def of_json(program):
             wanted = [json.loads(it) for it in listed(program, octets, ["--json", *words]).splitlines()]
             yield f"JSON {words}: stream {side.stream}, {name}", rest == wanted
     segments, _ = with_gap()
-    made = run(program, ["--segments", "5084", "--json"], lines_of(segments)).stdout.decode()
+    made = run(program, ["--segments", "--json"], lines_of(segments)).stdout.decode()
     yield "JSON: a gap", [json.loads(it).get("gap") for it in made.splitlines()] == [None, 20, None, None]
 
 
@@ -197,21 +217,21 @@ def of_refusals(program):
                            (good.replace("\t0\t", "\tx\t"), "line 1: Stream"), (good.replace("5084", "port"), "line 1: Port"),
                            (good.replace("0x", ""), "line 1: Flags"), (good.replace("\t1\t", "\t4294967296\t"), "line 1: Sequence"),
                            (good + "abc", "line 1: Payload"), (many, "line 1001: Connections")]:
-        done = run(program, ["--segments", "5084"], given.encode())
+        done = run(program, ["--segments"], given.encode())
         yield message, (done.returncode, done.stderr.decode()) == (1, f"llrp: {message}\n")
-    for words in (["--segments", "0"], ["--segments", "65536"], ["--segments", "x"], ["--segments", "5084", "--hex"],
-                  ["--segments", "5084", "--names", "profile"]):
+    for words in (["--segments", "--port", "0"], ["--segments", "--port", "65536"], ["--segments", "--port", "x"], ["--port", "5084"],
+                  ["--segments", "--hex"], ["--segments", "--names", "profile"]):
         done = run(program, words, b"")
         yield f"{words}", done.returncode == 2 and done.stdout == b"" and b"--segments" in done.stderr
-    done = run(program, ["--segments", "5084"], b"")
+    done = run(program, ["--segments"], b"")
     yield "no lines", (done.returncode, done.stdout, done.stderr) == (0, b"", b"")
-    wrong = run(program, ["--segments", "5085"], lines_of(two_readers()[0])).stdout.decode()
+    wrong = run(program, ["--segments", "--port", "5085"], lines_of(two_readers()[0])).stdout.decode()
     yield "another port", all(side == "client" for _, _, side, _ in parted(wrong))
 
 
 def main():
     program = program_given()
-    results = [*of_captures(program), *of_json(program), *of_refusals(program)]
+    results = [*of_captures(program), *of_long_frames(program), *of_json(program), *of_refusals(program)]
     return finish_results(results, LEAST)
 
 

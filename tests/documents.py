@@ -20,7 +20,7 @@ from parts.ports import free_port
 from parts.repository import TOP, program_given
 
 # How many commands each document has.
-DOCUMENTS = {"README.md": 8, "docs/capture.md": 8, "docs/client.md": 1, "docs/json.md": 5, "docs/sim.md": 19}
+DOCUMENTS = {"README.md": 8, "docs/capture.md": 8, "docs/client.md": 1, "docs/errors.md": 3, "docs/json.md": 6, "docs/sim.md": 20}
 # How many libraries have an example, and where the tests are that run them.
 LIBRARIES = 20
 TESTS = ("crates/test_libraries/src/examples", "crates/test_ends/src", "crates/test_keys/src")
@@ -45,7 +45,7 @@ def script_of(commands, program, folder):
     """Returns the commands as a script of bash, over the program, with a port that is free. At the end it waits for those that were
     begun in the background, and gives the status of the last one."""
     port = free_port()
-    # a reader that is begun in the background is waited for, until it listens
+    # a reader that is begun in the background is waited for, until it listens, where it is given its port
     listens = f"await grep -q ':{port:04X} 00000000:0000 0A' /proc/net/tcp"
     lines = [AWAIT]
     for command in commands:
@@ -55,7 +55,7 @@ def script_of(commands, program, folder):
             ready = ready.replace(file, shlex.quote(f"{folder}/{file}"))
         if re.search(r"\b(sim|127\.0\.0\.1)\b", command):
             ready = ready.replace("5084", str(port))
-        lines += [ready, listens] if command.endswith("&") else [ready]
+        lines += [ready, listens] if command.endswith("&") and " sim 0 " not in command else [ready]
         lines.append(f'printf "%s %d\\n" {shlex.quote(MARK)} $?')
     return "\n".join([*lines, "wait $!"])
 

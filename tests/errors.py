@@ -27,7 +27,7 @@ MOST_MEMORY = 65_536
 LINES = ("crates/llrp_commands/src/command.rt", "write_error", 11)
 # The first words of the lines that the program writes itself, some of two lines.
 ELSEWHERE = (
-    "FILE access access answers answers file line name network no not password power prefixes prefixes rospec rospec save several unknown,"
+    "FILE access access answers answers expect file line name network no not password power prefixes prefixes rospec rospec save script script several unknown,"
 ).split()
 REASONS = ("crates/llrp_listing/src/outcome.rt", "names", 9)
 NODES = ("crates/llrp_listing/src/outcome.rt", "node_fault_name", 8)
@@ -95,7 +95,7 @@ def entries(before):
 
 def first_words(names):
     """Returns the first word of each name, without the program's own."""
-    return sorted(re.sub(r"^llrp: ", "", it.strip("`| ")).split()[0].rstrip(":") for it in names)
+    return sorted(re.sub(r"^llrp: ", "", it.strip("`| ")).split()[0].rstrip(":;") for it in names)
 
 
 def checks_of_rows():

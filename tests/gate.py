@@ -32,7 +32,8 @@ def packages_in(text):
 def listed_in(text):
     """Returns the tools and the packages of each script of .ci/run."""
     packages = packages_in(text)
-    rows = [it.split() for it in re.findall(r'(?m)^    "([^"]*)"$', re.search(r"(?ms)^scripts=\($(.*?)^\)", text)[1])]
+    parts = [re.search(rf"(?ms)^{it}=\($(.*?)^\)", text)[1] for it in ("ports", "others", "library")]
+    rows = [it.split() for it in re.findall(r'(?m)^    "([^"]*)"$', "".join(parts))]
     return {name: (set(tools), {it for tool in tools for it in packages.get(tool, [tool])}) for name, _, *tools in rows}
 
 

@@ -1,7 +1,8 @@
 #!/usr/bin/env python3
 """Compares the keys that `epc --list` makes of random tag URIs with what Debian's python3-stdnum finds in them: their check digits, and the
-values of their element strings. Each key is also read back to the word of its tag URI, some are answered as objects of JSON, and those of a
-listing that `show --keys` prints are compared and read back by `encode --keys`.
+values of their element strings. Each key is also read back to the word of its tag URI, some are answered as objects of JSON, those of a
+listing that `show --keys` prints are compared and read back by `encode --keys`, and those of a simulated reader's tags by `inventory --keys`. Random
+words of USDoD-96 and their tag URIs are compared with those that are made of the layout here, by `epc --schemes all`.
 
 usage: tests/keys.py [PROGRAM]
 
@@ -19,7 +20,7 @@ from parts.repository import program_given
 EACH = 300
 # How many of them are answered as objects of JSON, for each length of the company prefix.
 OBJECTS = 3
-LEAST = 6 * EACH * 3 + 6 * 7 * (OBJECTS * 2 + 3)
+LEAST = 6 * EACH * 3 + 6 * 7 * (OBJECTS * 2 + 4) + EACH * 7
 # The names of the keys of those schemes.
 NAMES = {"sgtin": "gtin", "sscc": "sscc", "sgln": "gln", "grai": "grai", "gdti": "gdti", "gsrn": "gsrn"}
 # The digits of company prefix and reference together, the digits of the reference that come first in the key, the application identifier and
@@ -32,6 +33,8 @@ SCHEMES = {
     "gdti": (12, 0, "(253)", ""),
     "gsrn": (17, 0, "(8018)", None),
 }
+# The characters of a code of USDoD-96.
+CODE = "0123456789ABCDEFGHJKLMNPQRSTUVWXYZ"
 # What Debian's Python says of lines: a check digit for digits, and the values of an element string.
 JUDGE = """
 import json, sys
@@ -113,6 +116,59 @@ def listings(program, scheme, tags, told):
     yield f"a wrong key in a listing of {scheme}: {done.stderr}", (done.stdout, done.stderr, done.returncode) == (b"", b"llrp: line 3: Epc Key\n", 1)
 
 
+def inventories(program, scheme, tags, told):
+    """Yields whether `inventory --json --keys` prints the keys as the last members of the tags that a simulated reader sees."""
+    script = "".join(f"3 {at} seen 1 -60 {tag}\n" for at, (tag, _, _) in enumerate(tags))
+    with subprocess.Popen([program, "sim", "0", "--ready"], stdin=subprocess.PIPE, stderr=subprocess.PIPE, text=True) as reader:
+        reader.stdin.write(script)
+        reader.stdin.close()
+        port = reader.stderr.readline().rpartition(":")[2].strip()
+        lines = run(program, "inventory", "127.0.0.1", port, "--json", "--keys", input=b"").stdout.splitlines()
+    seen = [list(json.loads(line).items()) for line in lines]
+    wanted = [
+        [("epc", tag), ("antenna", 1), ("rssi", -60), (NAMES[scheme], front + digit), *([("serial", number)] if number else [])]
+        for (tag, front, number), (digit, _) in zip(tags, told)
+    ]
+    yield f"the keys of an inventory of {scheme}", seen == [*wanted, [("report", len(tags))], [("tags", len(tags)), ("reports", 1)]]
+
+
+def supplier_word(value, six, serial):
+    """Returns the digits of the word of USDoD-96 that a filter value, six characters and a serial number make."""
+    return f"{0x2F << 88 | value << 84 | int.from_bytes(six.encode('latin-1'), 'big') << 36 | serial:024X}"
+
+
+def suppliers(program):
+    """Yields whether words of USDoD-96 are those of their tag URIs, have no other form than these, and fail at the first wrong character of a
+    code, and whether a text with such a code is refused."""
+    named, asked, wrong = [], [], []
+    for _ in range(EACH):
+        value, serial = random.randrange(16), random.choice([0, 2**36 - 1, random.randrange(2**36)])
+        code = "".join(random.choices(CODE, k=random.choice([5, 6])))
+        six = code.rjust(6)
+        place = random.randrange(6)
+        other = random.choice([chr(it) for it in range(256) if chr(it) not in CODE and (place, it) != (0, 32)])
+        named.append((f"urn:epc:tag:usdod-96:{value}.{code}.{serial}", supplier_word(value, six, serial)))
+        asked.append((supplier_word(value, six[:place] + other + six[place + 1 :], serial), 12 + 8 * place))
+        character = random.choice("IOabz-")
+        wrong.append(f"urn:epc:tag:usdod-96:{value}.{code[:2]}{character}{code[3:]}.{serial}")
+    texts, words, all_schemes = [text for text, _ in named], [word for _, word in named], ("--schemes", "all")
+    rows = zip(texts, words, answers(program, texts, "--to", "hex", *all_schemes), answers(program, words, "--to", "tag", *all_schemes))
+    for text, word, found, back in rows:
+        yield f"the word of {text}: {found}", found == word
+        yield f"the text of {word}: {back}", back == text
+    for form in ("pure", "key"):
+        for word, found in zip(words, answers(program, words, "--to", form, *all_schemes)):
+            yield f"the form {form} of {word}: {found}", found == "! NoKey"
+    for text, word, found in zip(texts, words, answers(program, texts, "--json", *all_schemes)):
+        yield f"the forms of {text}: {found}", json.loads(found) == {"tag": text, "hex": word}
+    for (word, bit), found in zip(asked, answers(program, [word for word, _ in asked], "--to", "tag", *all_schemes)):
+        yield f"the fault of {word}: {found}", found == f"urn:epc:raw:96.x{word}\tCode {bit}"
+    for text, found in zip(wrong, answers(program, wrong, "--to", "hex", *all_schemes)):
+        yield f"a wrong code in {text}: {found}", found == "! Code"
+    done = run(program, "epc", "--forms", *all_schemes, words[0], input=b"")
+    yield f"the forms of {words[0]}", done.stdout.decode() == f"tag {texts[0]}\nhex {words[0]}\n"
+
+
 def run(program, *words, input):
     """Runs a command over octets."""
     return subprocess.run([program, *words], input=input, capture_output=True, timeout=60)
@@ -129,6 +185,7 @@ def checks(program):
             asked = [(front, element if scheme in ("sgtin", "sscc") else "") for (_, front, _), element in zip(tags, elements)]
             told = judged(asked)
             yield from listings(program, scheme, tags, told)
+            yield from inventories(program, scheme, tags, told)
             found = zip(tags, elements, words, told, words_of(program, tags, elements, company_digits))
             for (tag, front, number), element, word, (digit, values_told), back in found:
                 yield f"the key of {tag}: {element}", element == start + front + digit + (mark + number if number else "")
@@ -136,6 +193,7 @@ def checks(program):
                 yield f"the values of {element}: {values_told}", not values_told or values_told == values
                 yield f"the word of {element}", word == back
             yield from objects(program, company_digits, elements, told)
+    yield from suppliers(program)
 
 
 if __name__ == "__main__":

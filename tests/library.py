@@ -15,6 +15,7 @@ import subprocess
 import sys
 import tempfile
 
+import explain
 import json_lines
 from parts.captures import payloads
 from parts.counting import finish_results, snippet, text_of
@@ -32,7 +33,7 @@ HEADER = "include/llrp.h"
 # How many frames are listed by one call.
 FRAMES_AT_ONCE = 4000
 # How many cases there are: the functions of the header, the rows of the tests' tables, and what is compared of each.
-LEAST = 930
+LEAST = 973
 # How the header writes a parameter of the library's source, without `alloc`, which the toolchain passes.
 IN_C = {
     "&[u8]": "const uint8_t *{0}, size_t {0}_length",
@@ -73,7 +74,7 @@ def declarations():
 def checks_of_calls(folder):
     """Yields whether the header declares what the source has, and whether each function answers through it."""
     declared = declarations()
-    yield "nineteen functions", len(declared) == 19
+    yield "twenty-three functions", len(declared) == 23
     table = text_of("docs/library.md").split("| Function | What it does |")[1].split("\n\n")[0]
     rows = re.findall(r"(?m)^\| (`[^|]*`) \|", table)
     named = sorted(re.findall(r"llrp_\w+", "".join(rows)))
@@ -84,7 +85,7 @@ def checks_of_calls(folder):
     found = re.findall(r"(?m)^\w+ llrp_\w+\(.*\);$", text_of(HEADER))
     yield "the header's declarations", sorted(found) == sorted(declared)
     status, out, err = run(build(folder, "tests/calls.c"))
-    yield f"calls through the header: {out}{err}", (status, out, err) == (0, "55 passed, 0 failed\n", "")
+    yield f"calls through the header: {out}{err}", (status, out, err) == (0, "72 passed, 0 failed\n", "")
 
 
 def checks_of_manual(folder):
@@ -151,7 +152,7 @@ class Stub:
             path.raw, line._obj.value = b"a" * 300, self.LINE
         return 97
 
-    llrp_word_of_text = llrp_list_all = llrp_list_json_all = llrp_encode_all = llrp_encode_json_all = without_memory
+    llrp_word_of_text = llrp_list_all = llrp_list_json_all = llrp_explain_all = llrp_encode_all = llrp_encode_json_all = without_memory
 
 
 def runs_out_of_memory(call, *arguments, **how):
@@ -171,11 +172,11 @@ def checks_of_binding(llrp):
     yield "more room for a listing", llrp.list(b"\x08") == (Stub.LISTING.decode(), 10, True)
     yield "a line above 2^32", refused(llrp.encode, "") == ("", Stub.LINE)
     yield "more room for a path", refused(llrp.pack, []) == ("", Stub.LINE)
-    for call, argument in ((llrp.list, b""), (llrp.messages, b""), (llrp.encode, ""), (llrp.pack, [])):
+    for call, argument in ((llrp.list, b""), (llrp.messages, b""), (llrp.explain, b""), (llrp.encode, ""), (llrp.pack, [])):
         yield f"{call.__name__} without memory", runs_out_of_memory(call, argument, all=True)
     yield "word_of_text without memory", runs_out_of_memory(llrp.word_of_text, "")
     llrp.library = real
-    for name, status in (("OK", 0), ("FAULTY", 1), ("BROKEN", 2), ("ROOM", 3), ("MEMORY", 7), ("HEADER", 16), ("ZEROS", 20)):
+    for name, status in (("OK", 0), ("FAULTY", 1), ("BROKEN", 2), ("ROOM", 3), ("MEMORY", 7), ("HEADER", 16), ("ZEROS", 20), ("CODE", 22)):
         is_right = getattr(_library, name) == status and re.search(rf"(?m)^    LLRP_{name} = {status},", text_of(HEADER))
         yield f"the package's {name}", is_right is not None
     for name in ("WORD_OCTETS", "TEXT_ROOM", "NAME_ROOM", "MOST_OCTETS", "TAG_WORD", "TAG_ANTENNA", "TAG_RSSI", "TAG_FIRST_SEEN", "TAG_COUNT"):
@@ -308,6 +309,27 @@ def checks_of_refusals(llrp):
     yield "octets in a larger room", llrp.encode("0 KEEPALIVE 2 7\n" * 3000) == bytes.fromhex("083E0000000A00000007") * 3000
 
 
+def checks_of_explaining(llrp):
+    """Yields whether the fields of frames, lawful and not, are those that the rows of tests/explain.py have."""
+    for digits, numbers, lines, refused_lines, reason, bit, octet in explain.FAULTS:
+        # (the row of a limit is one of the command)
+        if reason != "MessageLength":
+            frame = bytes.fromhex(digits)
+            for whole in (False, True):
+                written = llrp.explain(frame, all=whole)
+                yield f"explain {digits}, {whole}", explain.is_fault(written, frame, numbers, lines, refused_lines, reason, bit, octet)
+    for rows, wholes in ((explain.MESSAGES, (False, True)), (explain.WHOLE, (True,))):
+        for digits, numbers, lines in rows:
+            frame = bytes.fromhex(digits)
+            for whole in wholes:
+                yield f"explain {digits}, {whole}", llrp.explain(frame, all=whole) == explain.text(1, frame, explain.head(numbers) + lines)
+    for digits, line, _ in explain.ENDS:
+        frame = bytes.fromhex("083E0000000A00000007")
+        yield f"explain an end {digits}", llrp.explain(frame + bytes.fromhex(digits)) == explain.text(1, frame, explain.head((0, 2, 62, 10, 7))) + line
+    many = bytes.fromhex("083E0000000A00000007") * 3000
+    yield "explain many frames", llrp.explain(many).count("MessageID 7\n") == 3000
+
+
 def lawful_messages():
     """Yields the frame and the listing of each message of the tests' tables whose stream has nothing else."""
     rows = [(it.frame, [line + "\n" for line in it.listing]) for it in lawful_cases()]
@@ -427,6 +449,7 @@ def main():
             *checks_of_tags(llrp, program),
             *checks_of_streams(llrp, program),
             *checks_of_refusals(llrp),
+            *checks_of_explaining(llrp),
             *checks_of_binding(llrp),
             *checks_of_whole(llrp),
             *checks_of_capture(llrp, program),

@@ -31,7 +31,7 @@ from parts.repository import TOP
 
 PAGE = "docs/recipes.md"
 # How many commands the page has that are run.
-COMMANDS = 78
+COMMANDS = 84
 # How long a recipe may take, in seconds.
 LONGEST = 120
 UNIT = "examples/systemd/llrp-watch@.service"

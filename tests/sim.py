@@ -41,7 +41,7 @@ SET_READER_CONFIG, CLOSE_CONNECTION, ADD_ROSPEC, START_ROSPEC, ENABLE_ROSPEC, GE
 SET_READER_CONFIG_RESPONSE, ADD_ROSPEC_RESPONSE, START_ROSPEC_RESPONSE, ENABLE_ROSPEC_RESPONSE = 13, 30, 32, 34
 CLOSE_CONNECTION_RESPONSE, GET_SUPPORTED_VERSION_RESPONSE, RO_ACCESS_REPORT, KEEPALIVE, EVENT = 4, 56, 61, 62, 63
 # By how much something may come late, in seconds, or early after what the client heard late: the machine's other work holds both up.
-LATE = 0.6
+LATE = 1.0
 EARLY = 0.2
 
 
@@ -167,7 +167,7 @@ def refusals():
             yield "a port that is taken", ended(run) == (3, "llrp: network\n")
     with held_port() as port, simulated(str(port), "--ready", "--bind", "no.such.host.invalid") as run:
         yield "a host that there is not", ended(run) == (3, "llrp: network\n")
-    for words in (("0", "--ready"), ("5084", "--clients", "65536"), ("5084", "--clients", "-1"), ("5084", "--clients"), ("5084", "--bind")):
+    for words in (("0",), ("5084", "--clients", "65536"), ("5084", "--clients", "-1"), ("5084", "--clients"), ("5084", "--bind")):
         with simulated(*words) as run:
             status, said = ended(run)
             yield " ".join(words), status == 2 and said.startswith("error: ")
@@ -262,10 +262,11 @@ def kind_of(frame):
 
 
 @contextlib.contextmanager
-def living(*words, script="", clock="real"):
-    """Gives a port where `sim` serves clients by a clock, and the running `sim`."""
+def living(*words, script="", clock="real", ready=True):
+    """Gives a port where `sim` serves clients by a clock, and the running `sim`, once it listens if it is to."""
     with held_port() as port, simulated(str(port), "--clock", clock, "--ready", *words, script=script) as run:
-        run.stderr.readline()
+        if ready:
+            run.stderr.readline()
         yield port, run
 
 
@@ -374,7 +375,8 @@ def second_clients():
                     said, end = second.frame(1), second.frame(1)
                     yield f"client {number} beside the first is refused", (said[:18], said[26:], end) == (refused, b"\1\0\0\6\0\2", None)
             first.send(message(GET_SUPPORTED_VERSION, 9))
-            yield "the first is served on, and heard nothing of it", [kind for kind, _ in first.heard(0.3)] == [GET_SUPPORTED_VERSION_RESPONSE]
+            heard = [kind for kind, _ in first.heard(0.3)]
+            yield "the first is served on, and heard of both", heard == [EVENT, EVENT, GET_SUPPORTED_VERSION_RESPONSE]
             first.send(CLOSE)
             first.await_kind(CLOSE_CONNECTION_RESPONSE)
         with Client(port) as third:

@@ -25,7 +25,7 @@ from parts.ports import free_port
 from parts.repository import TOP, program_given
 
 # How many comparisons there are.
-LEAST = 229
+LEAST = 246
 # How long a run may take, in seconds.
 LONGEST = 20
 
@@ -45,6 +45,13 @@ MADE_OF_TWO = bytes.fromhex(
     "00B10043000013DC0000 00B20012 00B3000500 00B60009 0000000000 00B7001A 000200010002 00B800090000000000 00BA0007000101"
     " 00ED000D020001 00EE00061F80"
 )
+# A word of the EPC Tag Data Standard 1.13, appendix E, of the scheme GIAI-96, with its tag URI and its raw URI, and the GTIN of the other tags,
+# which that standard works out of their company prefix and item (section 7.1).
+GIAI = bytes.fromhex("3474257BF40000000000162E")
+GIAI_TEXT = "urn:epc:tag:giai-96:3.0614141.5678"
+RAW_TEXT = "urn:epc:raw:96.x3474257BF40000000000162E"
+GTIN = "80614141123458"
+LABEL_CLASH = "--keys goes with lines of JSON, --schemes takes all, and neither goes with '--messages'"
 # How many reports the reader sends in one write.
 AT_ONCE = 1000
 # After how many tags the memory of a run is read, and how much it may have grown then, in KiB.
@@ -74,10 +81,10 @@ def status_parameter(code, text=""):
     return struct.pack(">HHHH", 287, 8 + len(said) + len(rest), code, len(said)) + said + rest
 
 
-def tag_report(number, serial, custom=False, data=b"\xaa\xbb", result=False):
+def tag_report(number, serial, custom=False, data=b"\xaa\xbb", result=False, word=None):
     """RO_ACCESS_REPORT of one tag with its antenna, RSSI, first time and count, with the result of a read of two words (section 16.2.1.5,
-    C1G2ReadOpSpecResult) or none, and with a maker's Custom parameter or none."""
-    epc = bytes.fromhex("3074257BF7194E40") + struct.pack(">I", serial)
+    C1G2ReadOpSpecResult) or none, and with a maker's Custom parameter or none; the tag may have another word."""
+    epc = word or bytes.fromhex("3074257BF7194E40") + struct.pack(">I", serial)
     parts = b"\x8d" + epc + b"\x81\x00\x01" + b"\x86\xc4" + b"\x82" + struct.pack(">Q", 1600000000000000) + b"\x88\x00\x01"
     if result:
         parts += struct.pack(">HHBHH", 349, 13, 0, 1, 2) + b"\xe2\x00\x34\x12"
@@ -148,6 +155,8 @@ class Reader:
         self.offers, self.beside = offers, beside
         self.refusals, self.denied = refusals, set(denied)
         self.rospecs, self.asked, self.sent, self.said = set(), [], 0, b""
+        # held while something is sent and noted, so that no tag goes out once DISABLE_ROSPEC is noted
+        self.turn = threading.RLock()
         self.accesses = set()
         self.socket = socket.create_server((host, 0), family=socket.AF_INET6 if ":" in host else socket.AF_INET)
         self.port = self.socket.getsockname()[1]
@@ -180,7 +189,8 @@ class Reader:
             kind, length, number = struct.unpack(">HII", head)
             body = self.read(client, length - 10)
             kind &= 1023
-            self.asked.append((kind, body))
+            with self.turn:
+                self.asked.append((kind, body))
             if kind == KEEPALIVE_ACK:
                 continue
             if self.end == "mute" and kind == DISABLE:
@@ -198,8 +208,9 @@ class Reader:
 
     def say(self, client, frames):
         """Sends frames."""
-        self.said += frames
-        client.sendall(frames)
+        with self.turn:
+            self.said += frames
+            client.sendall(frames)
 
     def answer(self, kind, body):
         """The LLRPStatus of an answer, and what the request does to the ROSpecs."""
@@ -238,8 +249,9 @@ class Reader:
         for first in range(0, self.tags, AT_ONCE):
             serials = range(first, min(first + AT_ONCE, self.tags))
             odd = self.odd(9000) if self.odd and self.end != "pending" else b""
-            self.say(client, odd.join(tag_report(100 + serial, serial, self.custom, self.data, self.result) for serial in serials))
-            self.sent += len(serials)
+            with self.turn:
+                self.sent += len(serials)
+                self.say(client, odd.join(tag_report(100 + serial, serial, self.custom, self.data, self.result) for serial in serials))
         if self.end == "silent":
             time.sleep(60)
         if self.end in ("busy", "mute"):
@@ -252,12 +264,15 @@ class Reader:
 
     def go_on(self, client):
         """Sends a tag ten times a second until the ROSpec is disabled."""
-        while DISABLE not in [kind for kind, _ in self.asked]:
-            try:
-                self.say(client, tag_report(100 + self.sent, self.sent))
-            except OSError:
-                return
-            self.sent += 1
+        while True:
+            with self.turn:
+                if DISABLE in [kind for kind, _ in self.asked]:
+                    return
+                try:
+                    self.say(client, tag_report(100 + self.sent, self.sent))
+                except OSError:
+                    return
+                self.sent += 1
             time.sleep(0.1)
 
     @staticmethod
@@ -372,6 +387,46 @@ def all_of_a_tag():
     yield "--text has no other parameters", out.startswith(f"{epc_text(0)} 1 -60 ") and len(out.split()) == 4
 
 
+def key_members(serial):
+    """The members of the key of a tag of the reader."""
+    return f',"gtin":"{GTIN}","serial":"{serial}"'
+
+
+def tag_object(text, members=""):
+    """The object that `inventory --json` prints of a tag."""
+    return f'{{"epc":"{text}","antenna":1,"rssi":-60{members}}}'
+
+
+def inventory_lines(*tags):
+    """Those of tags that come in a report each."""
+    return "".join(f'{tag}\n{{"report":1}}\n' for tag in tags) + f'{{"tags":{len(tags)},"reports":{len(tags)}}}\n'
+
+
+def label_runs():
+    """--keys and --schemes, of `watch` and of `inventory`."""
+    reader = Reader(tags=2, odd=lambda number: tag_report(number, 0, word=GIAI), result=True, custom=True)
+    tags = [json.loads(line) for line in run(reader, "watch", "--keys", "--schemes", "all", "--name", "dock")[1].splitlines()]
+    yield "watch: the texts of all schemes", [tag["epc"] for tag in tags] == [epc_text(0), GIAI_TEXT, epc_text(1)]
+    keys = [[("gtin", GTIN), ("serial", str(serial))] for serial in (0, 1)]
+    yield "watch: the keys are the last members", [list(tag.items())[-2:] for tag in tags[::2]] == keys
+    yield "watch: no key", set(tags[1]) == {"at", "reader", "epc", "antenna", "rssi", "FirstSeenTimestampUTC", "TagSeenCount"}
+    plain = [json.loads(line) for line in run(reader, "watch", "--name", "dock")[1].splitlines()]
+    yield "watch: without them", [tag["epc"] for tag in plain] == [epc_text(0), RAW_TEXT, epc_text(1)] and not any("gtin" in tag for tag in plain)
+    kept = [{name: value for name, value in tag.items() if name not in ("at", "epc", "gtin", "serial")} for tag in tags]
+    yield "watch: all else is the same", kept == [{name: value for name, value in tag.items() if name not in ("at", "epc")} for tag in plain]
+    words = run(reader, "watch", "--text", "--schemes", "all")[1]
+    wanted = [f"{text} 1 -60" for text in (epc_text(0), GIAI_TEXT, epc_text(1))]
+    yield "watch --text: the texts of all schemes", [line.rsplit(" ", 1)[0] for line in words.splitlines()] == wanted
+    reader = Reader(tags=2, odd=lambda number: tag_report(number, 0, word=GIAI), end="stays")
+    inventory = ("inventory", str(reader.port), "--reports", "3")
+    wanted = inventory_lines(tag_object(epc_text(0), key_members(0)), tag_object(GIAI_TEXT), tag_object(epc_text(1), key_members(1)))
+    yield "inventory", run_at("127.0.0.1", *inventory, "--json", "--keys", "--schemes", "all") == (0, wanted, "")
+    wanted = inventory_lines(tag_object(epc_text(0)), tag_object(RAW_TEXT), tag_object(epc_text(1)))
+    yield "inventory: without them", run_at("127.0.0.1", *inventory, "--json") == (0, wanted, "")
+    words = [line for text in (epc_text(0), GIAI_TEXT, epc_text(1)) for line in (f"{text} 1 -60", "= 1")]
+    yield "inventory: words", run_at("127.0.0.1", *inventory, "--schemes", "all") == (0, "\n".join([*words, "total 3 3", ""]), "")
+
+
 def seconds_of(moment):
     """The seconds since 1970 that a line has, or 0 where that is no moment in UTC with six digits of a second."""
     if not MOMENT.fullmatch(moment):
@@ -456,9 +511,9 @@ def ends_by_the_clock():
         start = time.monotonic()
         status, out, err = run(reader, "watch", "--for", "2", *words)
         took = time.monotonic() - start
-        yield f"--for and {name}: status", (status, err) == (0, "") and 2 <= took < 3
+        yield f"--for and {name}: status", (status, err) == (0, "") and 2 <= took < 10
         yield f"--for and {name}: the requests", asked(reader)[-4:] == ["START", *end] and not reader.rospecs
-        yield f"--for and {name}: each tag", len(out.splitlines()) == reader.sent > 10
+        yield f"--for and {name}: each tag", len(out.splitlines()) == reader.sent > 5
     with tempfile.NamedTemporaryFile("w", suffix=".rospec") as file:
         file.write(TEXT_FILE)
         file.flush()
@@ -468,11 +523,11 @@ def ends_by_the_clock():
     reader = Reader(end="silent")
     start = time.monotonic()
     status, out, err = run(reader, "watch", "--for", "1", "--keepalive", "0")
-    yield "--for and a dead reader", (status, err, len(out.splitlines())) == (3, "llrp: read\n", 3) and time.monotonic() - start < 9
+    yield "--for and a dead reader", (status, err, len(out.splitlines())) == (3, "llrp: read\n", 3) and time.monotonic() - start < 15
     reader = Reader(end="mute")
     start = time.monotonic()
     status, _, err = run(reader, "watch", "--for", "1", "--keepalive", "1")
-    yield "--for and no response", (status, err) == (3, "llrp: read\n") and time.monotonic() - start < 7
+    yield "--for and no response", (status, err) == (3, "llrp: read\n") and time.monotonic() - start < 15
     reader = Reader(denied=[DISABLE], end="busy")
     status, _, err = run(reader, "watch", "--for", "1")
     yield "--for and a refused DISABLE_ROSPEC", (status, err) == (1, "llrp: status 101\n") and not reader.rospecs
@@ -480,7 +535,7 @@ def ends_by_the_clock():
     start = time.monotonic()
     status, out, err = run(reader, "watch", "--for", "3", "--again", "60")
     took = time.monotonic() - start
-    yield "--for and --again", status == 1 and set(err.splitlines()) == {"llrp: early"} and 3 <= took < 4
+    yield "--for and --again", status == 1 and set(err.splitlines()) == {"llrp: early"} and 3 <= took < 10
     yield "--for and --again: more than one connection", len(out.splitlines()) == reader.sent > 1
     yield "--for and no reader", run_at(f"127.0.0.1:{free_port()}", "watch", "--for", "1") == (3, "", "llrp: network\n")
     for number in ("0", "4294967296", "x", ""):
@@ -651,7 +706,7 @@ def access_refusals():
         reader = Reader(end="stay", denied=[kind])
         start = time.monotonic()
         status, _, err = run(reader, "watch", *words)
-        yield f"--access: a refused {name}_ACCESSSPEC", (status, err) == (1, "llrp: status 101\n") and time.monotonic() - start < 5
+        yield f"--access: a refused {name}_ACCESSSPEC", (status, err) == (1, "llrp: status 101\n") and time.monotonic() - start < 10
         yield f"--access: the requests then: {name}", asked(reader)[-3:] == LEAVING and not reader.accesses | reader.rospecs
     reader = Reader(end="stay", denied=[ADD_ACCESS])
     status, _, err = run(reader, "watch", *words, "--again", "1", seconds=4)
@@ -693,7 +748,7 @@ def bad_ends():
     """What a reader does that ends a run, and how it ends."""
     start = time.monotonic()
     status, out, err = run(Reader(end="silent"), "watch", "--keepalive", "1")
-    yield "silence", (status, err) == (3, "llrp: read\n") and 3 <= time.monotonic() - start < 8
+    yield "silence", (status, err) == (3, "llrp: read\n") and 3 <= time.monotonic() - start < 12
     yield "the tags before it", len(out.splitlines()) == 3
     status, _, err = run(Reader(denied=[ADD]), "watch")
     yield "a refused ADD_ROSPEC", (status, err) == (1, "llrp: status 101\n")
@@ -717,6 +772,12 @@ def words_that_clash():
         (("watch", "--rospec", "x", "--power", "1"), "the argument '--rospec <FILE>' cannot be used with '--power <DBM>'"),
         (("watch", "--power", "25.555"), "invalid value for '--power <DBM>': expected a number from -327.68 to 327.67 with at most two decimals"),
         (("watch", "--messages", "--text"), "the argument '--messages' cannot be used with '--text'"),
+        (("watch", "--text", "--keys"), LABEL_CLASH),
+        (("watch", "--messages", "--keys"), LABEL_CLASH),
+        (("watch", "--messages", "--schemes", "all"), LABEL_CLASH),
+        (("watch", "--schemes", "most"), LABEL_CLASH),
+        (("inventory", "5084", "--keys"), LABEL_CLASH),
+        (("inventory", "5084", "--json", "--schemes", "most"), LABEL_CLASH),
         (("watch", "--antennas", "1,,2"), "invalid value for '--antennas <LIST>': expected numbers from 1 to 65535 with commas between them"),
         (("stop", "--rospec", "x", "--id", "1"), "the argument '--rospec <FILE>' cannot be used with '--id <N>'"),
     ):
@@ -872,7 +933,7 @@ def stop_runs():
 
 
 PARTS = (
-    plain_runs, all_of_a_tag, option_runs, powers, access_runs, access_refusals, access_files, messages_runs, moments, ends_by_the_clock, odd_frames,
+    plain_runs, all_of_a_tag, label_runs, option_runs, powers, access_runs, access_refusals, access_files, messages_runs, moments, ends_by_the_clock, odd_frames,
     addresses, words_that_clash, bad_ends, ends_of_its_own, save_runs, verbose_runs, again_runs, stop_runs, long_runs
 )
 

@@ -21,7 +21,7 @@ from parts.counting import finish, snippet, text_of
 from parts.repository import TOP
 
 # How many things are checked, and how many tests the package has.
-LEAST, TESTS = 29, 111
+LEAST, TESTS = 30, 122
 # The Python for which Debian has pip, pytest and mypy.
 PYTHON = "/usr/bin/python3"
 LIBRARY = "libllrp_c.so.0"
@@ -107,7 +107,7 @@ def checks_of_documents(installed):
     runs_in_python(snippet("README.md", "of it with the library inside:"), names)
     yield "the Python of README.md", names["received"] == b"\x08" and names["sent"].hex() == "04480000000a00000007"
     found = runs_in_python(snippet("docs/library.md", "Then, in Python:"), {})
-    yield "the Python of docs/library.md", len(found) == 8
+    yield "the Python of docs/library.md", len(found) == 10
     for value, comment in found:
         yield f"docs/library.md: {comment}", value == eval(comment)
 

@@ -126,6 +126,22 @@ def taken_apart(line):
     return begin.replace(": BitCount 16, bits", ": Count 16, bits"), sorted(found), "".join(places)
 
 
+def distance(name, other):
+    """How many octets have to be put in, left out or changed to make one name of the other, in either case (Wagner and Fischer, 1974)."""
+    row = range(len(other) + 1)
+    for count, letter in enumerate(name.encode().lower(), 1):
+        before, row = row, [count]
+        for place, beside in enumerate(other.encode().lower()):
+            row.append(min(row[-1] + 1, before[place + 1] + 1, before[place] + (letter != beside)))
+    return row[-1]
+
+
+def nearest(name, order):
+    """The names of the table that are nearest to a name, by their numbers, of which the first five count."""
+    found = [(distance(name, row.name), row.name) for row in order]
+    return ", ".join([it for count, it in found if count == min(found)[0]][:5])
+
+
 def are_told(program):
     """Yields each row, and whether `fields --all` says of it what the table does, and what `fields` does with a name."""
     order = sorted(ROWS, key=lambda row: (FORMS.index(row.form), row.number))
@@ -135,7 +151,10 @@ def are_told(program):
     for row, line in zip(order, lines):
         yield f"fields --all: {line} in place of {told(row, order)}", taken_apart(line) == told(row, order)
         yield f"fields --all {row.name}", run(program, "fields", b"", row.name) == (0, line.encode() + b"\n")
-    yield "fields --all of no kind", run(program, "fields", b"", "KEEPALIV") == ((1, b"llrp: name\n"), b"")
+    for name in ["KEEPALIV", "rospecs", "a", "\u00e4", *(row.name[1:] for row in order)]:
+        if name not in [row.name for row in order]:
+            line = f"llrp: name; nearest: {nearest(name, order)}\n"
+            yield f"fields --all {name}: {line}", run(program, "fields", b"", name) == ((1, line.encode()), b"")
 
 
 def chunks(cases):

@@ -1,13 +1,15 @@
 #!/usr/bin/env python3
-"""Draws the pictures of the documents: docs/frame.svg and docs/crates.svg.
+"""Draws the pictures of the documents: docs/frame.svg, docs/fault.svg and docs/crates.svg.
 
-usage: docs/pictures/draw.py [--check]
+usage: docs/pictures/draw.py [--check] [PROGRAM]
 
-The frame is that of examples/report.hex, and the crates are those of crates.txt. With --check nothing is written; the last line is
+The frames are those of examples/report.hex and examples/fault.hex, which PROGRAM explains: llrp, crates/llrp/out/llrp where none is given.
+Without that program the crates alone are drawn, which are those of crates.txt. With --check nothing is written; the last line is
 `N passed, M failed`, and the status is 1 where a picture is not what this script draws.
 """
 import os
 import re
+import subprocess
 import sys
 from html import escape, unescape
 
@@ -55,50 +57,14 @@ def picture(width, height, title, parts):
     return "\n".join([head, f"<title>{escape(title)}</title>", STYLE, f'<rect width="{width}" height="{height}" fill="white"/>', *parts, "</svg>", ""])
 
 
-# ---- a frame beside its listing
-
-# The parts of the frame: how many octets each has, what they are, and whether they are a head or a value.
-PARTS = [
-    [(2, "version {version}, type {message}", HEAD), (4, "length {number}", HEAD), (4, "id {number}", HEAD)],
-    [(2, "type {parameter}", HEAD), (2, "length {number}", HEAD)],
-    [(1, "type {value}", HEAD), (12, "the tag's word of 96 bits", VALUE)],
-    [(1, "type {value}", HEAD), (2, "antenna", VALUE)],
-    [(1, "type {value}", HEAD), (1, "dBm", VALUE)],
-    [(1, "type {value}", HEAD), (8, "microseconds", VALUE)],
-    [(1, "type {value}", HEAD), (2, "count", VALUE)],
-]
+# ---- a frame beside its fields
 
 
-def told(what, octets):
-    """Returns what a part is, with the numbers that its octets have there (LLRP 1.1, section 17)."""
-    number = int.from_bytes(octets, "big")
-    return what.format(version=number >> 10 & 7, message=number & 1023, parameter=number & 1023, value=number & 127, number=number)
-
-
-def frame():
-    """Draws each part of a frame as a row of octets, and the part's line of the listing after it."""
-    octets = bytes.fromhex("".join(text_of("examples/report.hex").split()))
-    lines = text_of("examples/report.txt").splitlines()
-    assert len(lines) == len(PARTS) and sum(size for row in PARTS for size, _, _ in row) == len(octets)
-    parts, at, y = [], 0, 64
-    parts += [text(16, 24, "The octets of a frame, each row from its bit"), text(560, 24, "Its listing")]
-    for row, line in zip(PARTS, lines):
-        level = int(line[0])
-        x = 64 + 24 * level
-        parts.append(text(16, y + 15, str(8 * at), "small mono"))
-        for size, form, fill in row:
-            what = told(form, octets[at : at + size])
-            parts.append(text(x, y - 5, what, "small"))
-            for octet in octets[at : at + size]:
-                parts += [box(x, y, 26, 22, fill), text(x + 13, y + 15, f"{octet:02X}", "mono middle")]
-                x += 26
-            at += size
-            x = max(x + 6, x + 6 + 6 * len(what) - 26 * size)
-        parts.append(f'<path d="M {min(x, 540)} {y + 11} H 550" class="line"/>')
-        parts.append(text(560, y + 15, line, "mono"))
-        y += 48
-    parts.append(text(16, y, "Blue: the header of the message, and the heads of its parameters. Yellow: values.", "small"))
-    return picture(1060, y + 20, "A tag report, octet by octet, beside its listing", parts)
+def frame(program, name):
+    """Returns the picture of a frame of a file of hexadecimal digits, as examples/explain.py draws it of what the program prints."""
+    explained = subprocess.run([program, "explain", "--hex", "--json"], input=text_of(name).encode(), capture_output=True, timeout=60)
+    words = [sys.executable, os.path.join(TOP, "examples/explain.py")]
+    return subprocess.run(words, input=explained.stdout, capture_output=True, timeout=60, check=True).stdout.decode()
 
 
 # ---- the crates, and the way of a frame through them
@@ -110,6 +76,7 @@ CRATES = {
     "tag_uri": "texts of words",
     "tag_keys": "GS1 keys of EPCs",
     "tag_schemes": "further schemes",
+    "tag_scheme_keys": "their keys",
     "tag_forms": "forms of words",
     "tag_memory": "banks of tags",
     "llrp_schema": "the tables of LLRP",
@@ -133,6 +100,7 @@ CRATES = {
     "llrp_ask": "a client that asks",
     "llrp_endpoints": "both ends over bytes",
     "llrp_live": "a reader in real time",
+    "llrp_general": "general clients",
     "llrp_commands": "the command line",
     "llrp_tool": "all under one name",
     "llrp": "the program",
@@ -241,17 +209,21 @@ def crates():
 
 
 def main():
+    words = [word for word in sys.argv[1:] if word != "--check"]
+    program = os.path.abspath(words[0]) if words else os.path.join(TOP, "crates/llrp/out/llrp")
+    pictures = {"crates.svg": crates()}
+    if os.path.exists(program):
+        pictures |= {"frame.svg": frame(program, "examples/report.hex"), "fault.svg": frame(program, "examples/fault.hex")}
     failed = 0
-    pictures = {"frame.svg": frame(), "crates.svg": crates()}
     for name, drawn in pictures.items():
         path = os.path.join(DOCS, name)
-        if sys.argv[1:] != ["--check"]:
+        if "--check" not in sys.argv:
             with open(path, "w", encoding="utf-8") as file:
                 file.write(drawn)
         elif text_of(f"docs/{name}") != drawn:
             print(f"WRONG: docs/{name}")
             failed += 1
-    if sys.argv[1:] == ["--check"]:
+    if "--check" in sys.argv:
         print(f"{len(pictures) - failed} passed, {failed} failed")
     return 1 if failed else 0
 

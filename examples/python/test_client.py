@@ -16,12 +16,11 @@ SCRIPT = pathlib.Path(__file__).parent.parent / "sightings.script"
 @pytest.fixture
 def reader() -> Iterator[int]:
     """The port of a simulated reader, once it listens."""
-    with socket.create_server(("127.0.0.1", 0)) as free:
-        port = free.getsockname()[1]
-    words = [os.environ.get("LLRP", "llrp"), "sim", str(port), "--all", "--ready"]
+    words = [os.environ.get("LLRP", "llrp"), "sim", "0", "--all", "--ready"]
     with open(SCRIPT, encoding="utf-8") as script, subprocess.Popen(words, stdin=script, stderr=subprocess.PIPE, text=True) as run:
-        assert run.stderr and "listening" in run.stderr.readline()
-        yield port
+        line = run.stderr.readline() if run.stderr else ""
+        assert "listening" in line
+        yield int(line.rsplit(":", 1)[1])
         run.kill()
 
 

@@ -5,9 +5,10 @@ from typing import Any, Optional, Tuple, Union
 
 # The name of the library's file, as programs that are linked with it have it.
 NAME = "libllrp_c.so.0"
-# Numbers of include/llrp.h: the statuses that the package reads, the first and the last for which a word has no tag URI, and lengths.
+# Numbers of include/llrp.h: the statuses that the package reads, the first and the last for which a word has no tag URI, without further
+# schemes and with them, and lengths.
 OK, FAULTY, BROKEN, ROOM, MEMORY = 0, 1, 2, 3, 7
-HEADER, ZEROS = 16, 20
+HEADER, ZEROS, CODE = 16, 20, 22
 WORD_OCTETS, TEXT_ROOM, NAME_ROOM, MOST_OCTETS = 12, 64, 16, 1048576
 # More than all forms of a word have, so that no call is made twice; and more than the path of most members has.
 FORMS_ROOM, PATH_ROOM = 512, 256
@@ -50,6 +51,8 @@ def declare(library: ctypes.CDLL) -> None:
     for name, arguments in {
         "llrp_text_of_word": (*octets, *octets, pointer(size), pointer(ctypes.c_uint32)),
         "llrp_word_of_text": (*octets, *octets),
+        "llrp_text_in_all": (*octets, *octets, pointer(size), pointer(ctypes.c_uint32)),
+        "llrp_word_in_all": (*octets, *octets),
         "llrp_forms": (*octets, *octets, pointer(size)),
         "llrp_word_of_key": (*octets, ctypes.c_uint32, ctypes.c_uint32, *octets, pointer(ctypes.c_uint32)),
         "llrp_frame_length": (*octets, pointer(size)),
@@ -57,6 +60,8 @@ def declare(library: ctypes.CDLL) -> None:
         "llrp_list_all": listed,
         "llrp_list_json": listed,
         "llrp_list_json_all": listed,
+        "llrp_explain": (*octets, *octets, pointer(size)),
+        "llrp_explain_all": (*octets, *octets, pointer(size)),
         "llrp_tags": (*octets, pointer(TagStruct), size, pointer(size)),
         "llrp_encode": encoded,
         "llrp_encode_all": encoded,

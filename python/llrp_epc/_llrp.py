@@ -64,22 +64,26 @@ class Llrp:
 
     # ---- tags
 
-    def text_of_word(self, word: Octets) -> str:
-        """Returns the tag URI of a tag's twelve octets, or their raw URI where they have none."""
-        return self.text_and_fault(word)[0]
+    def text_of_word(self, word: Octets, all_schemes: bool = False) -> str:
+        """Returns the tag URI of a tag's twelve octets, or their raw URI where they have none.
 
-    def text_and_fault(self, word: Octets) -> Tuple[str, Optional[Tuple[str, int]]]:
+        With all_schemes=True words of GIAI-96, GSRNP-96, SGCN-96, CPI-96 and USDoD-96 have tag URIs too."""
+        return self.text_and_fault(word, all_schemes)[0]
+
+    def text_and_fault(self, word: Octets, all_schemes: bool = False) -> Tuple[str, Optional[Tuple[str, int]]]:
         """Returns the text of a tag's twelve octets, and None or why it is no tag URI: the name of the part and its first bit."""
+        function = self.library.llrp_text_in_all if all_schemes else self.library.llrp_text_of_word
         count, bit = ctypes.c_size_t(), ctypes.c_uint32()
-        status, text = _library.filled(self.library.llrp_text_of_word, word, _library.TEXT_ROOM, count, count, bit)
-        if status != _library.OK and not _library.HEADER <= status <= _library.ZEROS:
+        status, text = _library.filled(function, word, _library.TEXT_ROOM, count, count, bit)
+        if status != _library.OK and not _library.HEADER <= status <= _library.CODE:
             raise self._refusal(status)
         return text.decode(), None if status == _library.OK else (self.name(status), bit.value)
 
-    def word_of_text(self, text: str) -> bytes:
+    def word_of_text(self, text: str, all_schemes: bool = False) -> bytes:
         """Returns the twelve octets of a tag URI or a raw URI."""
+        function = self.library.llrp_word_in_all if all_schemes else self.library.llrp_word_of_text
         word = ctypes.c_size_t(_library.WORD_OCTETS)
-        status, octets = _library.filled(self.library.llrp_word_of_text, text.encode(), word.value, word)
+        status, octets = _library.filled(function, text.encode(), word.value, word)
         if status != _library.OK:
             raise self._refusal(status)
         return octets
@@ -146,6 +150,20 @@ class Llrp:
         function = self.library.llrp_list_all if all else self.library.llrp_list
         listing, used, status = self._listed(function, stream)
         return listing, used, status == _library.OK
+
+    def explain(self, octets: Octets, all: bool = False) -> str:
+        """Returns what `llrp explain` prints of the octets of a frame, or of several: a line for each field of a message, with its bit, width,
+        level, name and value.
+
+        The octets need not be messages: of a frame that is none the text has the fields before its first fault, those that are refused, and
+        a sentence with what stands there and what may."""
+        function = self.library.llrp_explain_all if all else self.library.llrp_explain
+        written = ctypes.c_size_t()
+        room = 64 * memoryview(octets).nbytes + 256
+        status, text = _library.filled(function, octets, room, written, written)
+        if status not in (_library.OK, _library.FAULTY):
+            raise self._refusal(status)
+        return text.decode()
 
     def tags(self, frame: Octets) -> "List[Tag]":
         """Returns what the message of one frame says of its tags, in their order: those of an RO_ACCESS_REPORT of LLRP 1.1.

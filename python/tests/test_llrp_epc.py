@@ -92,7 +92,7 @@ def test_a_bytearray_is_free_after_a_call(llrp: Llrp) -> None:
 
 @pytest.mark.parametrize("wrong", ["text", 7, None, [8, 62]])
 def test_what_is_not_octets(llrp: Llrp, wrong: Octets) -> None:
-    calls: List[Callable[[Octets], object]] = [llrp.text_of_word, llrp.messages, llrp.list, llrp.frame_length]
+    calls: List[Callable[[Octets], object]] = [llrp.text_of_word, llrp.messages, llrp.list, llrp.explain, llrp.frame_length]
     for call in calls:
         with pytest.raises(TypeError):
             call(wrong)
@@ -101,6 +101,11 @@ def test_what_is_not_octets(llrp: Llrp, wrong: Octets) -> None:
 def test_words_and_texts(llrp: Llrp) -> None:
     assert llrp.word_of_text(TEXT) == WORD
     assert llrp.text_and_fault(bytes.fromhex("340000000000000000000000")) == ("urn:epc:raw:96.x340000000000000000000000", ("Header", 0))
+    asset, coupon = bytes.fromhex("3474257BF40000000000162E"), "urn:epc:tag:sgcn-96:3.4012345.67890.04711"
+    assert llrp.text_of_word(asset, all_schemes=True) == "urn:epc:tag:giai-96:3.0614141.5678"
+    assert llrp.word_of_text(coupon, all_schemes=True).hex() == "3f74f4e4e612640000019907"
+    nothing = "urn:epc:raw:96.x3F74F4E4E612640000000001"
+    assert llrp.text_and_fault(bytes.fromhex("3F74F4E4E612640000000001"), all_schemes=True) == (nothing, ("Serial", 55))
     with pytest.raises(Refused, match="^LeadingZero$"):
         llrp.word_of_text("urn:epc:tag:sgtin-96:3.0614141.812345.007")
     with pytest.raises(Refused, match="^Length$"):
@@ -180,6 +185,27 @@ def test_listings(llrp: Llrp) -> None:
 REPORT = bytes.fromhex("043D0000002000000001 00F00016 8D 3074257BF7194E4000001A85 81 0001 86 C4")
 TAG: Message = {"parameter": "TagReportData", "parameters": [{"parameter": "EPC-96", "EPC": TEXT}, {"AntennaID": 1, "parameter": "AntennaID"}, {"parameter": "PeakRSSI", "PeakRSSI": -60}]}
 SEEN: Message = {"id": 1, "parameters": [TAG], "version": 1, "message": "RO_ACCESS_REPORT"}
+
+
+# The fields of the header of KEEPALIVE, which has no others (LLRP 1.1, section 16), and of the frame with reserved bits those up to these.
+COLUMNS = "BIT WIDTH LEVEL FIELD VALUE\n"
+EXPLAINED = f"frame 1, 10 octets\n{COLUMNS}0 3 0 reserved 0\n3 3 0 Version 2\n6 10 0 MessageType 62\n16 32 0 MessageLength 10\n48 32 0 MessageID 7\n"
+REFUSED = f"frame 1, 10 octets\n{COLUMNS}then, refused:\n0 3 0 reserved 1\nfault at bit 0, octet 0: Reserved: 3 bits are 1, not 0\n"
+
+
+@pytest.mark.parametrize("form", FORMS)
+def test_fields(llrp: Llrp, form: Callable[[bytes], Octets]) -> None:
+    assert llrp.explain(form(KEEPALIVE)) == EXPLAINED
+    assert llrp.explain(form(FAULTY)) == REFUSED
+
+
+def test_fields_of_what_is_no_frame(llrp: Llrp) -> None:
+    assert llrp.explain(b"") == ""
+    assert llrp.explain(KEEPALIVE + ACK[:4]) == f"{EXPLAINED}? 4\n"
+    assert llrp.explain(BROKEN) == "! BROKEN\n"
+    assert llrp.explain(CUSTOM).endswith("fault at bit 6, octet 0: MessageType: 1023 is of no message of the profile\n")
+    assert llrp.explain(CUSTOM, all=True).endswith("80 32 0 VendorIdentifier 25882\n112 8 0 MessageSubtype 37\n120 8 0 octets xaa\n")
+    assert llrp.explain(KEEPALIVE * 3000).count("MessageID 7\n") == 3000
 
 
 def test_messages_of_dicts(llrp: Llrp) -> None:
