@@ -13,7 +13,7 @@ IsFit octets (Fits count) = (0 < count) × (count ≤ length octets)
 IsFit octets Differs = ⊤
 IsFit octets Open = ⊤
 
--- the length field says it, where a message may have so many octets
+-- the length field says it, where a message has at most limit octets
 abbrev pub IsNextIn : (limit : ℕ) → List ℕ → Next → Type 0
 IsNextIn limit octets Partial = IsPartial octets
 IsNextIn limit octets (Frame count) = IsLength octets count × (count ≤ length octets)

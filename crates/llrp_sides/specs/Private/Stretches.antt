@@ -41,7 +41,7 @@ EndsAs stamp end s text0 text1 = text1 ≡ text0 ++ stamped s.form.json stamp (e
 abbrev pub BreaksOff : Stamp → (old new : Stretch) → (text0 text1 : List ℕ) → Type 0
 BreaksOff stamp old new text0 text1 = (new ≡ record old { is_broken = true }) × EndsAs stamp Broken old text0 text1
 
--- a decoder took octets of a frame after this front: all of them, or so many, with which the frame is listed
+-- a decoder took octets of a frame after this front: all of them, or that number, with which the frame is listed
 abbrev pub PassesTo : Stamp → (front octets : List ℕ) → Option ℕ → (old new : Stretch) → (text0 text1 : List ℕ) → Type 0
 PassesTo stamp front octets None old new text0 text1 =
     (mid : DecoderState) × (new ≡ record old { long = Some mid }) × StandsIn old.form.set mid (front ++ octets) × (mid.limit ≡ old.form.limit) × (text1 ≡ text0)
