@@ -17,4 +17,4 @@ mod form;
 pub mod laws;
 mod words;
 
-pub use answers::Answers;
+pub use answers::{Answers, Pair};

@@ -83,7 +83,7 @@ impl Places {
         }
     }
 
-    /// Notes a parameter so many levels below the message, in which those are that follow.
+    /// Notes a parameter that is `level` levels below the message, in which those are that follow.
     fn enter(&mut self, level: usize, kind: u16) {
         if 0 < level && level <= MOST_LEVELS {
             self.types[level - 1] = kind;

@@ -1,4 +1,4 @@
-//! A simulated reader that serves one client, and is told each moment.
+//! A simulated reader that serves one client, and is given each moment.
 
 ghost use Rattle.std.specs.Prelude.{◌≡◌, ◌≤◌, ◌++◌, [], Bool, IfOk, List, OnErr, OnOk, Result, ℕ};
 ghost use Rattle.llrp_stream.specs.declared.item.Item.{Item as TheItem};

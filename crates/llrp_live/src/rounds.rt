@@ -62,7 +62,7 @@ fn strength_at(least: i8, greatest: i8, turn: u64) -> Option<i8>
     least.checked_add_unsigned((turn % count) as u8)
 }
 
-/// What is seen by a line that has happened so many times before, where the words of its file are these.
+/// What is seen by a line that has happened `turn` times before, where the words of its file are these.
 /// Returns `None` if it has no antenna, no signal strength or no tag.
 pub fn sighting_at(rounds: &Rounds, words: &[Word], turn: u64) -> Option<Sighting>
     ensures turn { IfSome result (IsTurn rounds.now words.now turn) }

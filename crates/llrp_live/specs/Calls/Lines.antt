@@ -135,7 +135,7 @@ IsBelowBy true number own text = (s : Sent) × (own ≡ s ∷ []) × (s.line ≡
 abbrev pub IsBelow : Line → List Sent → List ℕ → Type 0
 IsBelow line own text = IsBelowBy (sends line.deed) line.number own text
 
--- the text is these lines in order, each ended by LF, with what stands below them, and that is what they send; so many LFs come before
+-- the text is these lines in order, each ended by LF, with what stands below them, and that is what they send; `before` LFs come before
 -- them, and each has the number of its place, counted from 1
 abbrev pub AreLines : ℕ → List Line → List Sent → List ℕ → Type 0
 AreLines before [] [] text = text ≡ []

@@ -44,7 +44,7 @@ fn strengths_of(text: &[u8]) -> Option<(i8, i8)>
     Some((least, greatest))
 }
 
-/// The name of a file, which is not empty, and is told from the text of a tag by how it begins.
+/// The name of a file, which is not empty, and is known from the text of a tag by how it begins.
 fn file_of(text: &[u8]) -> Option<ShortOctets>
     ensures { IfSome result (λ short. IsFileName text.now
         × (take short.count short.octets ≡ text.now)) }
