@@ -114,7 +114,7 @@ def tables():
             yield f"{words}: they ended well", ended(run) == (0, "")
     with simulated("5084", "--keep") as run:
         code, said = ended(run)
-        yield "--keep without a clock", code == 2 and said.startswith("error: the argument '--keep' needs '--clock <CLOCK>'")
+        yield "--keep without a clock", code == 2 and said.startswith("error: the argument '--keep' needs '--all' or '--clock <CLOCK>'")
 
 
 def expectations():

@@ -26,7 +26,7 @@ from words import flags_of
 LEAST = 48
 LONGEST = 20
 # What a client sends in docs/sim.md, and closes.
-REQUESTS = "0 GET_READER_CAPABILITIES 2 5 0\n0 GET_READER_CONFIG 2 6 0 0 0 0\n0 GET_SUPPORTED_VERSION 2 7\n0 CLOSE_CONNECTION 2 8\n"
+REQUESTS = "0 GET_READER_CAPABILITIES 1 5 0\n0 GET_READER_CONFIG 1 6 0 0 0 0\n0 GET_SUPPORTED_VERSION 1 7\n0 CLOSE_CONNECTION 1 8\n"
 # The answer to GET_ROSPECS of docs/reader.md: that ROSpec, enabled.
 LISTED = (bytes.fromhex("08240000004600000003") + status(0) + OTHER[:9] + b"\1" + OTHER[10:]).hex().upper()
 # The member of each kind of tail, by what docs/tables.md calls it (docs/json.md says the rest).

@@ -22,7 +22,7 @@ from parts.ports import held_port, listens_at, wait_until
 from parts.repository import TOP, program_given
 
 # How many comparisons there are.
-LEAST = 123
+LEAST = 144
 # How long a run may take, in seconds.
 LONGEST = 60
 
@@ -416,9 +416,9 @@ def second(octets):
     return struct.pack(">H", struct.unpack(">H", octets[:2])[0] + 0x400) + octets[2:]
 
 
-def versions():
+def agrees_on_versions(port, label):
     """A connection begins in version 1, and goes on in the one that is agreed."""
-    with living() as (port, _), Client(port) as client:
+    with Client(port) as client:
         client.await_kind(EVENT)
         for sent, wanted in (
             (second(message(GET_SUPPORTED_VERSION, 2)), second(message(GET_SUPPORTED_VERSION_RESPONSE, 2, b"\1\2" + status(0)))),
@@ -429,7 +429,82 @@ def versions():
             (second(message(CLOSE_CONNECTION, 7)), second(message(CLOSE_CONNECTION_RESPONSE, 7, status(0)))),
         ):
             client.send(sent)
-            yield f"versions: message {sent[9]}", client.frame(LONGEST) == wanted
+            yield f"{label}: message {sent[9]}", client.frame(LONGEST) == wanted
+
+
+def versions():
+    """Versions by a clock."""
+    with living() as (port, _):
+        yield from agrees_on_versions(port, "versions")
+
+
+# Further messages: DELETE_ROSPEC, DELETE_ACCESSSPEC, and their responses; M_FieldError is 101, and A_OutOfRange of a field 301.
+DELETE_ROSPEC, DELETE_ROSPEC_RESPONSE, DELETE_ACCESSSPEC, DELETE_ACCESSSPEC_RESPONSE = 21, 31, 41, 51
+
+
+@contextlib.contextmanager
+def general(*words, script=""):
+    """Gives a port where `sim --all` serves clients without a clock, and the running `sim`, once it listens."""
+    with held_port() as port, simulated(str(port), "--all", "--ready", *words, script=script) as run:
+        run.stderr.readline()
+        yield port, run
+
+
+def code_of(frame):
+    """The status with which a response begins."""
+    return struct.unpack(">H", frame[14:16])[0]
+
+
+def general_clients():
+    """With --all and without a clock general clients are served as by a clock, but time stands still."""
+    with general("--clients", "2") as (port, run):
+        yield from agrees_on_versions(port, "--all")
+        with Client(port) as client:
+            yield "the next client begins in version 1, at moment 0", client.frame(LONGEST) == ACCEPTED
+            for sent, wanted in (
+                (message(DELETE_ACCESSSPEC, 1, bytes(4)), message(DELETE_ACCESSSPEC_RESPONSE, 1, status(0))),
+                (message(SET_READER_CONFIG, 2, b"\0" + parameter(239, b"\0")), message(SET_READER_CONFIG_RESPONSE, 2, status(0))),
+                (message(DELETE_ROSPEC, 3, struct.pack(">I", 7)), message(DELETE_ROSPEC_RESPONSE, 3, parameter(287, struct.pack(">HH", 101, 0) + parameter(288, struct.pack(">HH", 1, 301))))),
+                (message(CUSTOM_MESSAGE, 4, struct.pack(">IB", 25882, 21)), message(ERROR_MESSAGE, 4, status(109))),
+            ):
+                client.send(sent)
+                yield f"--all: message {sent[9]} of type {kind_of(sent)}", client.frame(LONGEST) == wanted
+            client.send(message(DELETE_ROSPEC, 5, b"\0"))
+            refused = client.frame(LONGEST)
+            yield "a frame that is no message", kind_of(refused) == ERROR_MESSAGE and len(refused) > len(message(ERROR_MESSAGE, 5, status(100)))
+            client.send(CLOSE)
+            client.await_kind(CLOSE_CONNECTION_RESPONSE)
+        yield "both ended well", ended(run) == (0, "")
+    enable = message(CUSTOM_MESSAGE, 9, struct.pack(">IBI", 25882, 21, 0))
+    enabled = message(CUSTOM_MESSAGE, 9, struct.pack(">IB", 25882, 22) + status(0))
+    with general("--clients", "2", "--answers", os.path.join(TOP, "examples/answers")) as (port, run):
+        for number in (1, 2):
+            with Client(port) as client:
+                client.await_kind(EVENT)
+                client.send(enable)
+                yield f"--all: an answer of a file to client {number}", client.frame(LONGEST) == enabled
+        yield "and all is well", ended(run) == (0, "")
+    for words, codes in (((), [0, 0]), (("--keep",), [0, 101])):
+        with general("--clients", "2", *words) as (port, run):
+            said = []
+            for _ in codes:
+                with Client(port) as client:
+                    client.await_kind(EVENT)
+                    client.send(message(ADD_ROSPEC, 1, rospec()))
+                    said.append(code_of(client.await_kind(ADD_ROSPEC_RESPONSE)))
+            yield f"--all: a ROSpec of the client before {words}", said == codes and ended(run) == (0, "")
+    counted = "1 1000 seen 1 -60 urn:epc:tag:gid-96:1.2.3\n3 2000 seen 1 -60 urn:epc:tag:gid-96:1.2.3\n"
+    with general(script=counted) as (port, run), Client(port) as client:
+        client.await_kind(EVENT)
+        client.send(message(GET_SUPPORTED_VERSION, 1) + message(DELETE_ACCESSSPEC, 2, bytes(4)) + started())
+        report = client.await_kind(RO_ACCESS_REPORT)
+        yield "a script does not count what is answered by itself", report is not None and client.frame(0.3) == b""
+        client.send(CLOSE)
+        client.await_kind(CLOSE_CONNECTION_RESPONSE)
+        yield "and it ends well", ended(run) == (0, "")
+    with held_port() as port, simulated(str(port), "--keep") as run:
+        code, said = ended(run)
+        yield "--keep alone", code == 2 and said.startswith("error: the argument '--keep' needs '--all' or '--clock <CLOCK>'")
 
 
 def answered():
@@ -465,7 +540,7 @@ def answered():
         yield "no file of answers", ended(run) == (3, "llrp: answers\n")
     with held_port() as port, simulated(str(port), "--answers", "/no/such/file") as run:
         status_, said = ended(run)
-        yield "answers without a clock", status_ == 2 and said.startswith("error: the argument '--answers <FILE>' needs '--clock <CLOCK>'")
+        yield "answers without a clock", status_ == 2 and said.startswith("error: the argument '--answers <FILE>' needs '--all' or '--clock <CLOCK>'")
 
 
 def refused_clocks():
@@ -496,7 +571,7 @@ def examples():
     yield "examples/python/test_client.py", done.returncode == 0 and "2 passed" in done.stdout
 
 
-PLAIN = (ready, one_after_another, whole_scripts, addresses, refusals, examples)
+PLAIN = (ready, one_after_another, whole_scripts, addresses, refusals, general_clients, examples)
 BY_CLOCK = (time_passes, lines_with_moments, clients_that_misbehave, second_clients, readers_that_misbehave, versions, answered, refused_clocks)
 
 

@@ -6,9 +6,9 @@ use Rattle.llrp_listing.specs.declared.outcome.ToolErr.{ToolErr}
 use Rattle.llrp_listing.specs.declared.outcome.ToolErr.TheVariants.{Memory}
 use Rattle.llrp_endpoints.specs.declared.script.Entry.{Entry}
 use Rattle.llrp_commands.specs.Calls.Command.{Answers, fine_status}
-use Rattle.llrp.specs.Calls.Network.{Concludes, ServesSo}
+use Rattle.llrp.specs.Calls.Network.{Concludes, Serves}
 use Rattle.llrp_commands.specs.declared.arguments.sim_words.SimWords.{SimWords}
-use Rattle.llrp.specs.Calls.Clients.{FailsToSay, IsGreater, IsPortOf, MaySay, SaysReady, ServedClients, ServesAt, ServesClients, listens_on, most_clients, none, one_more}
+use Rattle.llrp.specs.Calls.Clients.{FailsToSay, IsGreater, IsPortOf, MaySay, SaysReady, ServedClients, ServesClients, ServesThere, listens_on, none, one_more}
 
 -- ---- no write has failed
 
@@ -16,13 +16,13 @@ answered : (outcome : Result ℕ ToolErr) (e0 e1 : SinkLog) (status : ℕ) → A
 answered (Ok s) e0 e1 status (same, is) = ap (λ (e : SinkLog). e.failures) is
 answered (Err error) e0 e1 status (same, wrote) = ap (λ (e : SinkLog). e.failures) wrote.counts
 
-concluded : (run : Result (Unit {0}) ToolErr) (e0 e1 : SinkLog) (status : ℕ) → Concludes (Some run) e0 e1 (Ok status) → e1.failures ≡ e0.failures
+pub concluded : (run : Result (Unit {0}) ToolErr) (e0 e1 : SinkLog) (status : ℕ) → Concludes (Some run) e0 e1 (Ok status) → e1.failures ≡ e0.failures
 concluded run e0 e1 status is = answered (fine_status run) e0 e1 status is
 
-pub none_failed : (all : Bool) (entries : List Entry) (n status : ℕ) (e0 e1 : SinkLog) → ServedClients all entries n e0 e1 status → e1.failures ≡ e0.failures
-none_failed all entries n status e0 e1 (none e) = refl
-none_failed all entries n status e0 e1 (one_more m before ended greater e0' e e1' run served runs is greatest) =
-    concluded run e e1' ended is ∙ none_failed all entries m before e0' e served
+pub none_failed : (entries : List Entry) (n status : ℕ) (e0 e1 : SinkLog) → ServedClients entries n e0 e1 status → e1.failures ≡ e0.failures
+none_failed entries n status e0 e1 (none e) = refl
+none_failed entries n status e0 e1 (one_more m before ended greater e0' e e1' run served runs is greatest) =
+    concluded run e e1' ended is ∙ none_failed entries m before e0' e served
 
 -- ---- one client more
 
@@ -34,37 +34,34 @@ not_greater status ended greater a b same = record { first = a; second = b; one 
 
 -- ---- why no more are served
 
-pub no_network : (all : Bool) (entries : List Entry) (most n status : ℕ) (e0 e e1 : SinkLog) (answer : Result ℕ ToolErr) → n < most → ServedClients all entries n e0 e status → Concludes None e e1 answer → ServesClients all entries most e0 e1 answer
-no_network all entries most n status e0 e e1 answer less served is = inr (n, status, e, less, served, inl is)
+pub no_network : (entries : List Entry) (most n status : ℕ) (e0 e e1 : SinkLog) (answer : Result ℕ ToolErr) → n < most → ServedClients entries n e0 e status → Concludes None e e1 answer → ServesClients entries most e0 e1 answer
+no_network entries most n status e0 e e1 answer less served is = inr (n, status, e, less, served, inl is)
 
-pub no_memory : (all : Bool) (entries : List Entry) (most n status : ℕ) (e0 e e1 : SinkLog) (answer : Result ℕ ToolErr) → n < most → ServedClients all entries n e0 e status → Concludes (Some (Err Memory)) e e1 answer → ServesClients all entries most e0 e1 answer
-no_memory all entries most n status e0 e e1 answer less served is = inr (n, status, e, less, served, inr (inl is))
+pub no_memory : (entries : List Entry) (most n status : ℕ) (e0 e e1 : SinkLog) (answer : Result ℕ ToolErr) → n < most → ServedClients entries n e0 e status → Concludes (Some (Err Memory)) e e1 answer → ServesClients entries most e0 e1 answer
+no_memory entries most n status e0 e e1 answer less served is = inr (n, status, e, less, served, inr (inl is))
 
-pub no_line : (all : Bool) (entries : List Entry) (most n status : ℕ) (e0 e e1 : SinkLog) (run : Result (Unit {0}) ToolErr) (fault : ToolErr) → n < most → ServedClients all entries n e0 e status → ServesSo all entries run → Concludes (Some run) e e1 (Err fault)
-    → ServesClients all entries most e0 e1 (Err fault)
-no_line all entries most n status e0 e e1 run fault less served runs is = inr (n, status, e, less, served, inr (inr (run, fault, runs, is, refl)))
+pub no_line : (entries : List Entry) (most n status : ℕ) (e0 e e1 : SinkLog) (run : Result (Unit {0}) ToolErr) (fault : ToolErr) → n < most → ServedClients entries n e0 e status → Serves entries run → Concludes (Some run) e e1 (Err fault)
+    → ServesClients entries most e0 e1 (Err fault)
+no_line entries most n status e0 e e1 run fault less served runs is = inr (n, status, e, less, served, inr (inr (run, fault, runs, is, refl)))
 
-pub all_served : (all : Bool) (entries : List Entry) (most n status : ℕ) (e0 e1 : SinkLog) → n ≡ most → ServedClients all entries n e0 e1 status → ServesClients all entries most e0 e1 (Ok status)
-all_served all entries most n status e0 e1 same served = inl (status, subst (λ (k : ℕ). ServedClients all entries k e0 e1 status) same served, refl)
+pub all_served : (entries : List Entry) (most n status : ℕ) (e0 e1 : SinkLog) → n ≡ most → ServedClients entries n e0 e1 status → ServesClients entries most e0 e1 (Ok status)
+all_served entries most n status e0 e1 same served = inl (status, subst (λ (k : ℕ). ServedClients entries k e0 e1 status) same served, refl)
 
 -- ---- where it listens, and that it says so
 
-pub says_not : (words : SimWords) (entries : List Entry) (e0 e1 : SinkLog) (address : List ℕ) (port : ℕ) (fault : ToolErr) → words.ready ≡ true → address ≡ listens_on words.bind → IsPortOf words.port port → SaysReady address port e0 e1 (Err fault) → ServesAt words entries e0 e1 (Err fault)
-says_not words entries e0 e1 address port fault ready same of is =
-    let fails : FailsToSay true (listens_on words.bind) port e0 e1 (Err fault) = (fault, subst (λ (a : List ℕ). SaysReady a port e0 e1 (Err fault)) same is, refl) in
-    inr (inl (port, of, subst (λ (b : Bool). FailsToSay b (listens_on words.bind) port e0 e1 (Err fault)) (sym ready) fails))
+-- clients are served so
+module _ (Serve : SinkLog → SinkLog → Result ℕ ToolErr → Type 0) where
+  pub says_not : (words : SimWords) (e0 e1 : SinkLog) (address : List ℕ) (port : ℕ) (fault : ToolErr) → words.ready ≡ true → address ≡ listens_on words.bind → IsPortOf words.port port → SaysReady address port e0 e1 (Err fault) → ServesThere words Serve e0 e1 (Err fault)
+  says_not words e0 e1 address port fault ready same of is =
+      let fails : FailsToSay true (listens_on words.bind) port e0 e1 (Err fault) = (fault, subst (λ (a : List ℕ). SaysReady a port e0 e1 (Err fault)) same is, refl) in
+      inr (inl (port, of, subst (λ (b : Bool). FailsToSay b (listens_on words.bind) port e0 e1 (Err fault)) (sym ready) fails))
 
-goes_on : (words : SimWords) (entries : List Entry) (e0 e e1 : SinkLog) (port most : ℕ) (answer : Result ℕ ToolErr) → IsPortOf words.port port → MaySay words.ready (listens_on words.bind) port e0 e → most ≡ most_clients words.clients → ServesClients words.all entries most e e1 answer
-    → ServesAt words entries e0 e1 answer
-goes_on words entries e0 e e1 port most answer of said many serves = inr (inr (port, e, of, said, subst (λ (n : ℕ). ServesClients words.all entries n e e1 answer) many serves))
+  pub says : (words : SimWords) (e0 e e1 : SinkLog) (address : List ℕ) (port : ℕ) (answer : Result ℕ ToolErr) → words.ready ≡ true → address ≡ listens_on words.bind → IsPortOf words.port port → SaysReady address port e0 e (Ok tt) → Serve e e1 answer → ServesThere words Serve e0 e1 answer
+  says words e0 e e1 address port answer ready same of is serves =
+      let said : MaySay true (listens_on words.bind) port e0 e = subst (λ (a : List ℕ). SaysReady a port e0 e (Ok tt)) same is in
+      inr (inr (port, e, of, subst (λ (b : Bool). MaySay b (listens_on words.bind) port e0 e) (sym ready) said, serves))
 
-pub says : (words : SimWords) (entries : List Entry) (e0 e e1 : SinkLog) (address : List ℕ) (port most : ℕ) (answer : Result ℕ ToolErr) → words.ready ≡ true → address ≡ listens_on words.bind → IsPortOf words.port port → SaysReady address port e0 e (Ok tt) → most ≡ most_clients words.clients
-    → ServesClients words.all entries most e e1 answer → ServesAt words entries e0 e1 answer
-says words entries e0 e e1 address port most answer ready same of is many serves =
-    let said : MaySay true (listens_on words.bind) port e0 e = subst (λ (a : List ℕ). SaysReady a port e0 e (Ok tt)) same is in
-    goes_on words entries e0 e e1 port most answer of (subst (λ (b : Bool). MaySay b (listens_on words.bind) port e0 e) (sym ready) said) many serves
-
-pub is_silent : (words : SimWords) (entries : List Entry) (e0 e1 : SinkLog) (most : ℕ) (answer : Result ℕ ToolErr) → words.ready ≡ false → most ≡ most_clients words.clients → ServesClients words.all entries most e0 e1 answer → ServesAt words entries e0 e1 answer
-is_silent words entries e0 e1 most answer ready many serves =
-    let said : MaySay false (listens_on words.bind) words.port e0 e0 = refl in
-    goes_on words entries e0 e0 e1 words.port most answer (inr refl) (subst (λ (b : Bool). MaySay b (listens_on words.bind) words.port e0 e0) (sym ready) said) many serves
+  pub is_silent : (words : SimWords) (e0 e1 : SinkLog) (answer : Result ℕ ToolErr) → words.ready ≡ false → Serve e0 e1 answer → ServesThere words Serve e0 e1 answer
+  is_silent words e0 e1 answer ready serves =
+      let said : MaySay false (listens_on words.bind) words.port e0 e0 = refl in
+      inr (inr (words.port, e0, inr refl, subst (λ (b : Bool). MaySay b (listens_on words.bind) words.port e0 e0) (sym ready) said, serves))

@@ -1,6 +1,7 @@
 pub mod AccessLemmas
 pub mod AskLemmas
 pub mod ClientLemmas
+pub mod GeneralLemmas
 pub mod LabelLemmas
 pub mod NetworkLemmas
 pub mod PlanLemmas

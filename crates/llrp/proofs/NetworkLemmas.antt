@@ -11,18 +11,13 @@ use Rattle.llrp_endpoints.specs.Plan.{Plan}
 use Rattle.llrp_endpoints.specs.RunInventory.{RunsInventory}
 use Rattle.llrp_endpoints.specs.RunLoop.{RunsLoop, Traffic, DeviceWay}
 use Rattle.llrp_endpoints.specs.RunServe.{RunsServe}
-use Rattle.llrp_endpoints.specs.Calls.General.{RunsServeAll}
 use Rattle.llrp_commands.specs.declared.command.TheConstants.{LIMIT}
 use Rattle.llrp.specs.declared.network.TheConstants.{FIRST_ID}
-use Rattle.llrp.specs.Calls.Network.{FollowsPlan, RunsBoth, Serves, ServesAll, unnumbered}
+use Rattle.llrp.specs.Calls.Network.{FollowsPlan, RunsBoth, Serves, unnumbered}
 
 pub serves : (entries : List Entry) (core : Reader) (r0 r1 : SourceLog) (w0 w1 : SinkLog) (bytes : List ℕ) (outcome : Result (Unit {0}) ToolErr) → core ≡ new_reader LIMIT FIRST_ID → r0 ≡ new_source None → w0 ≡ new_sink None
     → RunsServe core entries r0 r1 w0 w1 bytes outcome → Serves entries outcome
 serves entries core r0 r1 w0 w1 bytes outcome reader source sink run = (r1, w1, bytes, rw (reader, source, sink) at run)
-
-pub serves_all : (entries : List Entry) (core : Reader) (r0 r1 : SourceLog) (w0 w1 : SinkLog) (bytes : List ℕ) (outcome : Result (Unit {0}) ToolErr) → core ≡ new_reader LIMIT FIRST_ID → r0 ≡ new_source None → w0 ≡ new_sink None
-    → RunsServeAll core entries r0 r1 w0 w1 bytes outcome → ServesAll entries outcome
-serves_all entries core r0 r1 w0 w1 bytes outcome reader source sink run = (r1, w1, bytes, rw (reader, source, sink) at run)
 
 pub follows : (limit : ℕ) (plan : Plan) (r0 r1 : SourceLog) (w0 w1 t0 t1 : SinkLog) (bytes : List ℕ) (run : Result Summary ToolErr) → r0 ≡ new_source None → w0 ≡ new_sink None
     → RunsInventory limit plan r0 r1 w0 w1 t0 t1 bytes run → FollowsPlan limit plan t0 t1 (unnumbered run)

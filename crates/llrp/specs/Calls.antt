@@ -5,6 +5,7 @@ pub mod Ask
 pub mod Clients
 pub mod Ending
 pub mod Farewell
+pub mod GeneralClients
 pub mod Labels
 pub mod Network
 pub mod Plan

@@ -1,5 +1,7 @@
 //! The file of `sim --answers`.
 
+ghost use Rattle.std.specs.Prelude.{IfOk};
+ghost use Rattle.llrp_answers.specs.Calls.Answers.{IsFile};
 ghost use Rattle.llrp_stream.specs.Calls.Device.{CanWrite};
 
 use crate::network::FAILED;
@@ -56,7 +58,9 @@ impl AnswerText {
     }
 
     /// The answers, for one more client.
-    pub fn answers(&self, alloc: Global) -> Result<Answers, ToolErr> {
+    pub fn answers(&self, alloc: Global) -> Result<Answers, ToolErr>
+        ensures { IfOk result (λ answers. IsFile self.now.text.items answers.pairs.items) }
+    {
         match Answers::read(alloc, self.text.as_slice()) {
             Ok(answers) => Ok(answers),
             Err(TextErr::Line { line, reason }) => Err(ToolErr::Listing { line, reason }),

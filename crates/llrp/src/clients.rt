@@ -71,19 +71,18 @@ pub fn serve_clients<E: Sink>(
     alloc: Global,
     listener: &TcpListener,
     script: &Script,
-    all: bool,
     most: u64,
     e: &mut E,
 ) -> Result<u8, ToolErr>
     requires { CanWrite (E.log e.old) }
-    ensures { ServesClients all script.now most (E.log e.old) (E.log e.new) result }
+    ensures { ServesClients script.now most (E.log e.old) (E.log e.new) result }
 {
     let mut status = 0;
     for _ in 0..most {
         let Ok(script) = script.try_clone(alloc) else {
             return conclude(Some(Err(ToolErr::Memory)), e);
         };
-        let Some(outcome) = serve_next(alloc, listener, script, all) else {
+        let Some(outcome) = serve_next(alloc, listener, script) else {
             return conclude(None, e);
         };
         let ended = conclude(Some(outcome), e)?;

@@ -2,11 +2,11 @@
 
 use crate::live_clock::LiveClock;
 use crate::live_script::LiveScript;
-use crate::located::Located;
 use crate::one_at_a_time::Clients;
 use crate::speech::{PATIENCE, Speech};
 use llrp_answers::Answers;
 use llrp_commands::LIMIT;
+use llrp_general::Located;
 use llrp_listing::ToolErr;
 use llrp_live::{
     Deed, Expectation, Expectations, Line, LiveReader, Notices, Schedule, Stage, later, moment_of,
@@ -324,7 +324,7 @@ pub fn serve_live(
         speech: Speech::new(alloc, stream, clock.in_moments(PATIENCE)),
         reader: LiveReader::new(alloc, core, answers),
         decoder: Decoder::new_in(alloc, KindSet::Standard, LIMIT),
-        located: Located::new(alloc),
+        located: Located::new(alloc, LIMIT),
         schedule,
         script,
         stage: Stage {

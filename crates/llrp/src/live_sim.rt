@@ -1,19 +1,15 @@
 //! The command `sim` with `--clock`: serves clients in real time.
 
-ghost use Rattle.std.specs.Prelude.{◌≡◌, if◌then◌else◌};
-ghost use Rattle.llrp_commands.specs.declared.command.TheConstants.{LIMIT};
-ghost use Rattle.llrp_session.specs.ReaderMachine as machine;
-ghost use Rattle.llrp.specs.declared.network.TheConstants.{FIRST_ID};
-
 use crate::canned::{AnswerText, refuse_answers};
 use crate::clients::{most_clients, say_ready};
+use crate::general_sim::{new_reader, next_core};
 use crate::live_client::{Served, serve_live};
 use crate::live_clock::LiveClock;
 use crate::live_script::{LiveScript, refuse_script};
-use crate::network::{FIRST_ID, conclude};
+use crate::network::conclude;
 use crate::one_at_a_time::Clients;
 use crate::sim::{listens_on, port_of};
-use llrp_commands::{LIMIT, SimWords};
+use llrp_commands::SimWords;
 use llrp_listing::{Text, ToolErr, write_all};
 use llrp_session::Reader;
 use llrp_stream::Output;
@@ -60,21 +56,6 @@ fn conclude_served(rt: &HostRuntime, served: Result<Served, ToolErr>) -> Result<
         }
         Err(error) => conclude(Some(Err(error)), &mut errors),
     }
-}
-
-/// A reader as new.
-fn new_reader(alloc: Global) -> Reader
-    ensures { result ≡ machine.new_reader LIMIT FIRST_ID }
-{
-    Reader::new(alloc, LIMIT, FIRST_ID)
-}
-
-/// The reader for the next client: the one that the last client left, if it is kept, and else one as
-/// new.
-fn next_core(alloc: Global, keep: bool, left: Reader) -> Reader
-    ensures { result ≡ (if keep then left else machine.new_reader LIMIT FIRST_ID) }
-{
-    if keep { left } else { new_reader(alloc) }
 }
 
 /// Serves clients of a listener one after another, each by a reader as new, or by one that keeps its

@@ -23,6 +23,7 @@ mod decibels;
 mod farewell;
 mod faults;
 mod files;
+mod general_sim;
 mod heard_frames;
 mod hints;
 mod inventory;
@@ -33,7 +34,6 @@ mod live_client;
 mod live_clock;
 mod live_script;
 mod live_sim;
-mod located;
 mod message_printer;
 mod network;
 mod noted;
@@ -60,6 +60,7 @@ mod watch_plan;
 mod whole_frames;
 
 use address::address_of;
+use canned::{AnswerText, refuse_answers};
 use files::run_files;
 use hints::Noticing;
 use inventory::Target;
@@ -117,6 +118,24 @@ fn refuse_words<E: Sink>(said: &[u8], errors: &mut E) -> Result<u8, ToolErr>
     Ok(USAGE)
 }
 
+/// Serves general clients as a simulated reader, as the words say, and returns the exit status.
+fn run_general_sim<E: Sink>(
+    rt: &HostRuntime,
+    words: SimWords<'_>,
+    errors: &mut E,
+) -> Result<u8, ToolErr>
+    requires { IsFreshSink (E.log errors.old) }
+{
+    let alloc = rt.alloc();
+    match AnswerText::open(rt, alloc, words.answers) {
+        Ok(answers) => {
+            let mut input = Input::new(rt.stdin());
+            general_sim::general_sim(rt, alloc, words, &answers, &mut input, errors)
+        }
+        Err(no_answers) => refuse_answers(no_answers, errors),
+    }
+}
+
 /// Serves clients as a simulated reader, as the words say, and returns the exit status.
 fn run_sim<E: Sink>(rt: &HostRuntime, words: SimWords<'_>, errors: &mut E) -> Result<u8, ToolErr>
     requires { IsFreshSink (E.log errors.old) }
@@ -125,6 +144,9 @@ fn run_sim<E: Sink>(rt: &HostRuntime, words: SimWords<'_>, errors: &mut E) -> Re
         return refuse_words(said, errors);
     }
     let Some(clock) = words.clock else {
+        if words.all {
+            return run_general_sim(rt, words, errors);
+        }
         return sim::sim(rt, rt.alloc(), words, &mut Input::new(rt.stdin()), errors);
     };
     match rate_of(clock) {

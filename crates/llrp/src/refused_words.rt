@@ -48,13 +48,13 @@ pub const NO_ADDRESS: &[u8] =
 pub const NO_CLOCK: &[u8] =
     b"error: invalid value for '--clock <CLOCK>': expected real, or real*N with N from 1 to 1000\n\nFor more information, try '--help'.\n";
 
-/// What is written if answers are given to a reader without a clock.
+/// What is written if answers are given to a reader of the profile that has no clock.
 const ANSWERS_ALONE: &[u8] =
-    b"error: the argument '--answers <FILE>' needs '--clock <CLOCK>'\n\nFor more information, try '--help'.\n";
+    b"error: the argument '--answers <FILE>' needs '--all' or '--clock <CLOCK>'\n\nFor more information, try '--help'.\n";
 
-/// What is written if a reader is to keep its ROSpecs without a clock.
+/// What is written if a reader of the profile that has no clock is to keep its ROSpecs.
 const KEEP_ALONE: &[u8] =
-    b"error: the argument '--keep' needs '--clock <CLOCK>'\n\nFor more information, try '--help'.\n";
+    b"error: the argument '--keep' needs '--all' or '--clock <CLOCK>'\n\nFor more information, try '--help'.\n";
 
 /// What is written if a free port is asked for, and nothing would say which it is.
 const FREE_PORT_UNSAID: &[u8] =
@@ -65,11 +65,13 @@ pub fn sim_clash(words: SimWords<'_>) -> Option<&'static [u8]> {
     if words.port == 0 && !words.ready {
         return Some(FREE_PORT_UNSAID);
     }
-    match words.clock {
-        None if words.answers.is_some() => Some(ANSWERS_ALONE),
-        None if words.keep => Some(KEEP_ALONE),
-        _ => None,
+    if words.all || words.clock.is_some() {
+        return None;
     }
+    if words.answers.is_some() {
+        return Some(ANSWERS_ALONE);
+    }
+    if words.keep { Some(KEEP_ALONE) } else { None }
 }
 
 /// What is written if the options of a plan exclude each other.

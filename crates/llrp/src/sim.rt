@@ -3,30 +3,26 @@
 ghost use Rattle.std.specs.Prelude.{◌≡◌};
 ghost use Rattle.llrp_stream.specs.Device.{IsFreshSink, IsFreshSource};
 ghost use Rattle.llrp.specs.Calls.Clients.{IsPortOf, RunsSim, ServesAt, listens_on};
-ghost use Rattle.llrp.specs.Calls.Network.{MayServe, ServesSo};
+ghost use Rattle.llrp.specs.Calls.Network.{MayServe, Serves};
 
 use crate::clients::{most_clients, say_ready, serve_clients};
 use crate::network::{FIRST_ID, conclude};
 use llrp_commands::{LIMIT, SimWords};
-use llrp_endpoints::{Script, run_serve, run_serve_all};
+use llrp_endpoints::{Script, run_serve};
 use llrp_listing::ToolErr;
 use llrp_session::Reader;
 use llrp_stream::{Input, Output, Sink, Source};
 use std::alloc::Global;
 use std::net::{Net, TcpListener, TcpStream};
 
-/// Serves the client of a stream by a script; with `all` it answers requests outside the profile.
-fn serve_stream(alloc: Global, stream: &TcpStream, script: Script, all: bool) -> Result<(), ToolErr>
-    ensures { ServesSo all script result }
+/// Serves the client of a stream by a script.
+fn serve_stream(alloc: Global, stream: &TcpStream, script: Script) -> Result<(), ToolErr>
+    ensures { Serves script result }
 {
     let mut source = Input::new(stream);
     let mut sink = Output::new(stream);
     let core = Reader::new(alloc, LIMIT, FIRST_ID);
-    if all {
-        run_serve_all(alloc, core, script, &mut source, &mut sink)
-    } else {
-        run_serve(alloc, core, script, &mut source, &mut sink)
-    }
+    run_serve(alloc, core, script, &mut source, &mut sink)
 }
 
 /// Serves the next client of a listener by a script, as `serve_stream` does. `None` means that the
@@ -35,12 +31,11 @@ pub fn serve_next(
     alloc: Global,
     listener: &TcpListener,
     script: Script,
-    all: bool,
 ) -> Option<Result<(), ToolErr>>
-    ensures { MayServe all script result }
+    ensures { MayServe script result }
 {
     let (stream, _) = listener.accept().ok()?;
-    Some(serve_stream(alloc, &stream, script, all))
+    Some(serve_stream(alloc, &stream, script))
 }
 
 /// The address to listen on, if no other is named: that of this machine alone.
@@ -88,7 +83,7 @@ fn serve_at<N: Net<Listener = TcpListener, Stream = TcpStream>, E: Sink>(
         say_ready(alloc, address, port_of(&listener, words.port), e)?;
     }
     let most = most_clients(words.clients);
-    serve_clients(alloc, &listener, script, words.all, most, e)
+    serve_clients(alloc, &listener, script, most, e)
 }
 
 /// Reads the script, serves clients as the words say, and returns the exit status: 0 if all is well,

@@ -20,3 +20,6 @@ mod serving;
 
 pub use located::Located;
 pub use serve::run_serve_whole;
+
+#[cfg(test)]
+mod tests;

@@ -9,7 +9,7 @@ use Rattle.llrp_listing.specs.Calls.Copying.{Writes}
 use Rattle.llrp_endpoints.specs.declared.script.Entry.{Entry}
 use Rattle.llrp_commands.specs.declared.arguments.sim_words.SimWords.{SimWords}
 use Rattle.llrp_endpoints.specs.Calls.ReadScript.{ReadsScript}
-use Rattle.llrp.specs.Calls.Network.{Concludes, ServesSo}
+use Rattle.llrp.specs.Calls.Network.{Concludes, Serves}
 
 -- ---- how many
 
@@ -25,22 +25,22 @@ pub record IsGreater (a b greater : ℕ) : Type 0 where
   pub one : (greater ≡ a) ⊎ (greater ≡ b)
 
 -- This many clients were served, each by a reader as new and all entries; how each ended was written, and the status is the greatest.
-pub data ServedClients (all : Bool) (entries : List Entry) : ℕ → SinkLog → SinkLog → ℕ → Type 0 where
-  none : (e : SinkLog) → ServedClients all entries 0 e e 0
-  one_more : (n status ended greater : ℕ) (e0 e1 e2 : SinkLog) (run : Result (Unit {0}) ToolErr) → ServedClients all entries n e0 e1 status → ServesSo all entries run → Concludes (Some run) e1 e2 (Ok ended) → IsGreater status ended greater
-      → ServedClients all entries (n + 1) e0 e2 greater
+pub data ServedClients (entries : List Entry) : ℕ → SinkLog → SinkLog → ℕ → Type 0 where
+  none : (e : SinkLog) → ServedClients entries 0 e e 0
+  one_more : (n status ended greater : ℕ) (e0 e1 e2 : SinkLog) (run : Result (Unit {0}) ToolErr) → ServedClients entries n e0 e1 status → Serves entries run → Concludes (Some run) e1 e2 (Ok ended) → IsGreater status ended greater
+      → ServedClients entries (n + 1) e0 e2 greater
 
 -- why no more are served: the network failed, memory ran out, or how the last one ended could not be written
-abbrev pub StopsServing : (all : Bool) → List Entry → SinkLog → SinkLog → Result ℕ ToolErr → Type 0
-StopsServing all entries e0 e1 answer =
+abbrev pub StopsServing : List Entry → SinkLog → SinkLog → Result ℕ ToolErr → Type 0
+StopsServing entries e0 e1 answer =
     Concludes None e0 e1 answer ⊎ Concludes (Some (Err Memory)) e0 e1 answer
-    ⊎ ((run : Result (Unit {0}) ToolErr) × (fault : ToolErr) × ServesSo all entries run × Concludes (Some run) e0 e1 answer × (answer ≡ Err fault))
+    ⊎ ((run : Result (Unit {0}) ToolErr) × (fault : ToolErr) × Serves entries run × Concludes (Some run) e0 e1 answer × (answer ≡ Err fault))
 
 -- As many clients were served as may be, or fewer, and then no more.
-abbrev pub ServesClients : (all : Bool) → List Entry → ℕ → SinkLog → SinkLog → Result ℕ ToolErr → Type 0
-ServesClients all entries most e0 e1 answer =
-    ((status : ℕ) × ServedClients all entries most e0 e1 status × (answer ≡ Ok status))
-    ⊎ ((n status : ℕ) × (e : SinkLog) × (n < most) × ServedClients all entries n e0 e status × StopsServing all entries e e1 answer)
+abbrev pub ServesClients : List Entry → ℕ → SinkLog → SinkLog → Result ℕ ToolErr → Type 0
+ServesClients entries most e0 e1 answer =
+    ((status : ℕ) × ServedClients entries most e0 e1 status × (answer ≡ Ok status))
+    ⊎ ((n status : ℕ) × (e : SinkLog) × (n < most) × ServedClients entries n e0 e status × StopsServing entries e e1 answer)
 
 -- ---- where it listens
 
@@ -76,12 +76,15 @@ abbrev pub FailsToSay : (ready : Bool) → List ℕ → ℕ → SinkLog → Sink
 FailsToSay true address port e0 e1 answer = (fault : ToolErr) × SaysReady address port e0 e1 (Err fault) × (answer ≡ Err fault)
 FailsToSay false address port e0 e1 answer = ⊥
 
--- nothing listens there; or it says where it listens, if it is to, and serves its clients
-abbrev pub ServesAt : SimWords → List Entry → SinkLog → SinkLog → Result ℕ ToolErr → Type 0
-ServesAt words entries e0 e1 answer =
+-- nothing listens there; or it says where it listens, if it is to, and then clients are served so
+abbrev pub ServesThere : SimWords → (SinkLog → SinkLog → Result ℕ ToolErr → Type 0) → SinkLog → SinkLog → Result ℕ ToolErr → Type 0
+ServesThere words Serve e0 e1 answer =
     Concludes None e0 e1 answer
     ⊎ ((port : ℕ) × IsPortOf words.port port × FailsToSay words.ready (listens_on words.bind) port e0 e1 answer)
-    ⊎ ((port : ℕ) × (e : SinkLog) × IsPortOf words.port port × MaySay words.ready (listens_on words.bind) port e0 e × ServesClients words.all entries (most_clients words.clients) e e1 answer)
+    ⊎ ((port : ℕ) × (e : SinkLog) × IsPortOf words.port port × MaySay words.ready (listens_on words.bind) port e0 e × Serve e e1 answer)
+
+abbrev pub ServesAt : SimWords → List Entry → SinkLog → SinkLog → Result ℕ ToolErr → Type 0
+ServesAt words entries e0 e1 answer = ServesThere words (ServesClients entries (most_clients words.clients)) e0 e1 answer
 
 -- a script that is read is served, and one that is not ends the command
 abbrev pub ServesScript : SimWords → Result (List Entry) ToolErr → SinkLog → SinkLog → Result ℕ ToolErr → Type 0

@@ -1,5 +1,5 @@
 -- What the commands over sockets do, and how they end.
-use Rattle.std.specs.Prelude.{◌≡◌, ℕ, Bool, false, true, List, Option, Some, None, Result, Ok, Err, codes}
+use Rattle.std.specs.Prelude.{◌≡◌, ℕ, List, Option, Some, None, Result, Ok, Err, codes}
 use Rattle.llrp_stream.specs.Device.{SourceLog, SinkLog, Wrote, WroteAndFailed}
 use Rattle.llrp_stream.specs.Calls.Device.{new_sink, new_source}
 use Rattle.llrp_session.specs.ReaderMachine.{new_reader}
@@ -14,7 +14,6 @@ use Rattle.llrp_endpoints.specs.Plan.{Plan}
 use Rattle.llrp_endpoints.specs.RunInventory.{RunsInventory}
 use Rattle.llrp_endpoints.specs.RunLoop.{Devices, BothEnds, RunsLoop, Traffic, DeviceWay}
 use Rattle.llrp_endpoints.specs.RunServe.{RunsServe}
-use Rattle.llrp_endpoints.specs.Calls.General.{RunsServeAll}
 use Rattle.llrp_endpoints.specs.Calls.ReadScript.{ReadsScript}
 use Rattle.llrp.specs.declared.network.TheConstants.{FIRST_ID}
 
@@ -40,16 +39,6 @@ unnumbered (Err error) = Err error
 abbrev pub Serves : List Entry → Result (Unit {0}) ToolErr → Type 0
 Serves entries outcome = (source : SourceLog) × (sink : SinkLog) × (bytes : List ℕ)
     × RunsServe (new_reader LIMIT FIRST_ID) entries (new_source None) source (new_sink None) sink bytes outcome
-
--- the same, with requests outside the profile answered
-abbrev pub ServesAll : List Entry → Result (Unit {0}) ToolErr → Type 0
-ServesAll entries outcome = (source : SourceLog) × (sink : SinkLog) × (bytes : List ℕ)
-    × RunsServeAll (new_reader LIMIT FIRST_ID) entries (new_source None) source (new_sink None) sink bytes outcome
-
--- with --all, or without
-abbrev pub ServesSo : (all : Bool) → List Entry → Result (Unit {0}) ToolErr → Type 0
-ServesSo true entries outcome = ServesAll entries outcome
-ServesSo false entries outcome = Serves entries outcome
 
 -- A client followed the plan so, over such a source and sink. These are the logs of its report.
 abbrev pub FollowsPlan : (limit : ℕ) → Plan → SinkLog → SinkLog → Result (Unit {0}) ToolErr → Type 0
@@ -82,8 +71,8 @@ MayEnd Unrun Run None = Unrun
 MayEnd Unrun Run (Some outcome) = Run outcome
 
 -- The reader served the next client; nothing is said of a network that failed.
-abbrev pub MayServe : (all : Bool) → List Entry → Option (Result (Unit {0}) ToolErr) → Type 0
-MayServe all entries outcome = MayEnd (Unit {0}) (ServesSo all entries) outcome
+abbrev pub MayServe : List Entry → Option (Result (Unit {0}) ToolErr) → Type 0
+MayServe entries outcome = MayEnd (Unit {0}) (Serves entries) outcome
 
 -- The client followed the plan; nothing was reported where the network failed.
 abbrev pub MayFollow : (limit : ℕ) → Plan → SinkLog → SinkLog → Option (Result (Unit {0}) ToolErr) → Type 0

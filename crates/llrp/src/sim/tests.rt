@@ -9,23 +9,18 @@ const ADD: &[u8] =
 const SAID: &[u8] =
     b"\x04\x3f\0\0\0\x20\0\0\0\x01\0\xf6\0\x16\0\x80\0\x0c\0\0\0\0\0\0\0\0\x01\0\0\x06\0\0\x08\x1e\0\0\0\x12\0\0\0\x02\x01\x1f\0\x08\0\0\0\0";
 
-const GET_SUPPORTED_VERSION: &[u8] = b"\x08\x2e\0\0\0\x0a\0\0\0\x07";
-
-const VERSIONS: &[u8] = b"\x08\x38\0\0\0\x14\0\0\0\x07\x02\x02\x01\x1f\0\x08\0\0\0\0";
-
-/// Serves a client that sent this and then closed its side, and answers three requests outside the
-/// profile or not. Returns how that ended, and everything that the client received.
+/// Serves a client that sent this and then closed its side. Returns how that ended, and everything that
+/// the client received.
 fn serve(
     rt: &HostRuntime,
     sent: &[u8],
-    all: bool,
 ) -> Result<(Option<Result<(), ToolErr>>, Vec<u8>), Fail> {
     let alloc = rt.alloc();
     let listener = TcpListener::bind(rt, "127.0.0.1:0")?;
     let mut client = TcpStream::connect(rt, listener.local_addr()?)?;
     client.write_all(sent)?;
     client.shutdown(Shutdown::Write)?;
-    let served = serve_next(alloc, &listener, Script::parse(alloc, b"")?, all);
+    let served = serve_next(alloc, &listener, Script::parse(alloc, b"")?);
     let mut said = Vec::new(alloc);
     client.read_to_end(&mut said)?;
     Ok((served, said))
@@ -33,17 +28,9 @@ fn serve(
 
 #[test]
 fn a_client_that_added_a_rospec_and_ended(rt: HostRuntime) -> Result<(), Fail> {
-    let (served, said) = serve(&rt, ADD, false)?;
+    let (served, said) = serve(&rt, ADD)?;
     assert!(rt; served == Some(Ok(())));
     assert!(rt; said.as_slice() == SAID);
-    Ok(())
-}
-
-#[test]
-fn a_general_client_that_asked_for_versions(rt: HostRuntime) -> Result<(), Fail> {
-    let (served, said) = serve(&rt, GET_SUPPORTED_VERSION, true)?;
-    assert!(rt; served == Some(Ok(())));
-    assert!(rt; said.as_slice().ends_with(VERSIONS));
     Ok(())
 }
 
@@ -58,7 +45,7 @@ fn ends_and_their_lines(rt: HostRuntime) -> Result<(), Fail> {
             b"llrp: broken\n".as_slice(),
         ),
     ] {
-        let (served, _) = serve(&rt, sent, false)?;
+        let (served, _) = serve(&rt, sent)?;
         let mut errors = Output::new(Vec::new(rt.alloc()));
         assert!(rt; conclude(served, &mut errors) == Ok(status));
         assert!(rt; errors.into_inner().as_slice() == line);

@@ -35,13 +35,13 @@ fn with_bench<'a>(
     let bind = "The address to listen on; without it 127.0.0.1";
     let clients = "How many clients to serve, one after another; without it 1, and 0 for no end";
     let clock = "Let time pass by itself: real, or real*N for N times as fast";
-    let answers = "Answer by FILE what the reader does not know; with --clock";
+    let answers = "Answer by FILE what the reader does not know; with --all or --clock";
     let ready = "Say on standard error where it listens, once it does";
     let with_bind = with_argument(command, text_option(alloc, "bind", "ADDRESS", bind));
     let with_clients = with_argument(with_bind, number_option(alloc, "clients", "N", clients));
     let with_clock = with_argument(with_clients, text_option(alloc, "clock", "CLOCK", clock));
     let with_answers = with_argument(with_clock, text_option(alloc, "answers", "FILE", answers));
-    let keep = "Keep the ROSpecs from client to client; with --clock";
+    let keep = "Keep the ROSpecs from client to client; with --all or --clock";
     let with_ready = with_argument(with_answers, plan_flag(alloc, "ready", ready));
     with_argument(with_ready, plan_flag(alloc, "keep", keep))
 }
