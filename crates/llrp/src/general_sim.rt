@@ -6,7 +6,8 @@ ghost use Rattle.llrp_session.specs.ReaderMachine.{new_reader as the_new_reader}
 ghost use Rattle.llrp_stream.specs.Calls.Device.{CanWrite};
 ghost use Rattle.llrp_stream.specs.Device.{IsFreshSink, IsFreshSource};
 ghost use Rattle.llrp.specs.declared.network.TheConstants.{FIRST_ID};
-ghost use Rattle.llrp.specs.Calls.GeneralClients.{MayServeGeneral, RunsGeneralSim, ServesGeneral, ServesGeneralAt, ServesGenerals, next_reader};
+ghost use Rattle.llrp.specs.Calls.GeneralClients.{RunsGeneralSim, ServesGeneral, ServesGeneralAt, ServesGenerals, next_reader};
+ghost use Rattle.llrp.specs.Private.GeneralClients.{MayServeGeneral};
 
 use crate::canned::AnswerText;
 use crate::clients::{most_clients, say_ready};

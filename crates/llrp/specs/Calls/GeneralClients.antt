@@ -1,5 +1,5 @@
 -- How `sim --all` serves general clients one after another.
-use Rattle.std.specs.Prelude.{◌≡◌, ℕ, ◌+◌, ◌<◌, ◌⊎◌, Bool, true, false, if◌then◌else◌, List, Option, Some, None, Result, Ok, Err}
+use Rattle.std.specs.Prelude.{◌≡◌, ℕ, ◌+◌, ◌<◌, ◌⊎◌, Bool, true, false, if◌then◌else◌, List, None, Some, Result, Ok, Err}
 use Rattle.llrp_stream.specs.Device.{SourceLog, SinkLog}
 use Rattle.llrp_stream.specs.Calls.Device.{new_sink, new_source}
 use Rattle.llrp_session.specs.ReaderMachine.{Reader, new_reader}
@@ -21,11 +21,6 @@ use Rattle.llrp.specs.Calls.Clients.{IsGreater, ServesThere, most_clients}
 abbrev pub ServesGeneral : List Pair → List Entry → (core left : Reader) → Result (Unit {0}) ToolErr → Type 0
 ServesGeneral answers entries core left outcome = (source : SourceLog) × (sink : SinkLog) × (bytes : List ℕ)
     × RunsServeWhole (setting core answers entries) left (new_source None) source (new_sink None) sink bytes outcome
-
--- It served the next client; nothing is said of a network that failed.
-abbrev pub MayServeGeneral : List Pair → List Entry → Reader → Option (Result (Unit {0}) ToolErr × Reader) → Type 0
-MayServeGeneral answers entries core None = Unit {0}
-MayServeGeneral answers entries core (Some served) = ServesGeneral answers entries core served.1 served.0
 
 -- the reader for the next client: the one that was left, if it is kept, or one as new
 abbrev pub next_reader : (keep : Bool) → Reader → Reader
