@@ -21,7 +21,13 @@ fn answered(rt: &HostRuntime, sent: &[u8]) -> Result<Vec<u8>, Fail> {
     client.write_all(sent)?;
     client.shutdown(Shutdown::Write)?;
     let script = Script::parse(alloc, b"")?;
-    let served = serve_next(alloc, &listener, new_reader(alloc), script, Answers::new(alloc));
+    let served = serve_next(
+        alloc,
+        &listener,
+        new_reader(alloc),
+        script,
+        Answers::new(alloc),
+    );
     let Some((outcome, _)) = served else {
         return Err(Fail::from("no client"));
     };
@@ -33,7 +39,15 @@ fn answered(rt: &HostRuntime, sent: &[u8]) -> Result<Vec<u8>, Fail> {
 
 #[test]
 fn a_general_client_that_asked_for_versions(rt: HostRuntime) -> Result<(), Fail> {
-    assert!(rt; answered(&rt, GET_SUPPORTED_VERSION)?.as_slice().ends_with(VERSIONS));
-    assert!(rt; answered(&rt, GET_ROSPECS)?.as_slice().ends_with(UNSUPPORTED));
+    assert!(rt;
+        answered(&rt, GET_SUPPORTED_VERSION)?
+            .as_slice()
+            .ends_with(VERSIONS)
+    );
+    assert!(rt;
+        answered(&rt, GET_ROSPECS)?
+            .as_slice()
+            .ends_with(UNSUPPORTED)
+    );
     Ok(())
 }

@@ -11,10 +11,7 @@ const SAID: &[u8] =
 
 /// Serves a client that sent this and then closed its side. Returns how that ended, and everything that
 /// the client received.
-fn serve(
-    rt: &HostRuntime,
-    sent: &[u8],
-) -> Result<(Option<Result<(), ToolErr>>, Vec<u8>), Fail> {
+fn serve(rt: &HostRuntime, sent: &[u8]) -> Result<(Option<Result<(), ToolErr>>, Vec<u8>), Fail> {
     let alloc = rt.alloc();
     let listener = TcpListener::bind(rt, "127.0.0.1:0")?;
     let mut client = TcpStream::connect(rt, listener.local_addr()?)?;

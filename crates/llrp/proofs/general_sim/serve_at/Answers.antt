@@ -1,4 +1,5 @@
-use Rattle.std.proofs.Common.{ℕ, Result, subst, ap}
+use Rattle.std.proofs.Common.{ℕ, subst}
+use Rattle.std.specs.Prelude.{Result}
 use Rattle.std.proofs.lemmas.Result.{err_from_is_err_and}
 use Rattle.llrp_stream.specs.Device.{SinkLog}
 use Rattle.llrp_listing.specs.declared.outcome.ToolErr.{ToolErr}
@@ -14,11 +15,11 @@ returns-in_err-say_ready g c =
     rw (p.1, p.2) (says_not (λ (a b : SinkLog) (r : Result ℕ ToolErr). ServesGenerals c.args.answers.now.text.items c.args.words.keep c.args.script.now (most_clients c.args.words.clients) a b r) c.args.words (g.E.Sink.log c.args.e.now) (g.E.Sink.log c.say_ready.new.e) c.listens_on-address.result.now c.port_of.result c.in_err-say_ready.field-0.0 c.if-words.true c.listens_on-address.ensures c.port_of.ensures c.in_err-say_ready.ensures)
 
 pub returns : goal.returns
-returns g c =
-    let served = subst (λ (n : ℕ). ServesGenerals c.args.answers.now.text.items c.args.words.keep c.args.script.now n _ (g.E.Sink.log c.serve_clients.new.e) c.serve_clients.result) c.most_clients-most.ensures c.serve_clients.ensures in
-    elim c.if-words.branch [
-      | then-words+in_ok-say_ready w ↦ says (λ (a b : SinkLog) (r : Result ℕ ToolErr). ServesGenerals c.args.answers.now.text.items c.args.words.keep c.args.script.now (most_clients c.args.words.clients) a b r) c.args.words (g.E.Sink.log c.args.e.now) (g.E.Sink.log w.say_ready.new.e) (g.E.Sink.log c.serve_clients.new.e) c.listens_on-address.result.now w.port_of.result c.serve_clients.result w.if-words.true c.listens_on-address.ensures w.port_of.ensures w.in_ok-say_ready.ensures
-          (subst (λ x. ServesGenerals c.args.answers.now.text.items c.args.words.keep c.args.script.now (most_clients c.args.words.clients) (g.E.Sink.log x) (g.E.Sink.log c.serve_clients.new.e) c.serve_clients.result) w.e-is served)
-      | else-words w ↦ is_silent (λ (a b : SinkLog) (r : Result ℕ ToolErr). ServesGenerals c.args.answers.now.text.items c.args.words.keep c.args.script.now (most_clients c.args.words.clients) a b r) c.args.words (g.E.Sink.log c.args.e.now) (g.E.Sink.log c.serve_clients.new.e) c.serve_clients.result w.if-words.false
-          (subst (λ x. ServesGenerals c.args.answers.now.text.items c.args.words.keep c.args.script.now (most_clients c.args.words.clients) (g.E.Sink.log x) (g.E.Sink.log c.serve_clients.new.e) c.serve_clients.result) w.e-is served)
-    ]
+returns g c = elim c.if-words.branch [
+  | then-words+in_ok-say_ready w ↦ says (λ (a b : SinkLog) (r : Result ℕ ToolErr). ServesGenerals c.args.answers.now.text.items c.args.words.keep c.args.script.now (most_clients c.args.words.clients) a b r) c.args.words (g.E.Sink.log c.args.e.now) (g.E.Sink.log w.say_ready.new.e) (g.E.Sink.log c.serve_clients.new.e) c.listens_on-address.result.now w.port_of.result c.serve_clients.result w.if-words.true c.listens_on-address.ensures w.port_of.ensures w.in_ok-say_ready.ensures
+      (subst (λ (n : ℕ). ServesGenerals c.args.answers.now.text.items c.args.words.keep c.args.script.now n (g.E.Sink.log w.say_ready.new.e) (g.E.Sink.log c.serve_clients.new.e) c.serve_clients.result) c.most_clients-most.ensures
+      (subst (λ x. ServesGenerals c.args.answers.now.text.items c.args.words.keep c.args.script.now c.most_clients-most.result (g.E.Sink.log x) (g.E.Sink.log c.serve_clients.new.e) c.serve_clients.result) w.e-is c.serve_clients.ensures))
+  | else-words w ↦ is_silent (λ (a b : SinkLog) (r : Result ℕ ToolErr). ServesGenerals c.args.answers.now.text.items c.args.words.keep c.args.script.now (most_clients c.args.words.clients) a b r) c.args.words (g.E.Sink.log c.args.e.now) (g.E.Sink.log c.serve_clients.new.e) c.serve_clients.result w.if-words.false
+      (subst (λ (n : ℕ). ServesGenerals c.args.answers.now.text.items c.args.words.keep c.args.script.now n (g.E.Sink.log c.args.e.now) (g.E.Sink.log c.serve_clients.new.e) c.serve_clients.result) c.most_clients-most.ensures
+      (subst (λ x. ServesGenerals c.args.answers.now.text.items c.args.words.keep c.args.script.now c.most_clients-most.result (g.E.Sink.log x) (g.E.Sink.log c.serve_clients.new.e) c.serve_clients.result) w.e-is c.serve_clients.ensures))
+]

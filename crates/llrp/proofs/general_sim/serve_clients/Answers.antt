@@ -1,6 +1,5 @@
-use Rattle.std.proofs.Common.{List, subst, ap, ◌∙◌, sym, arith}
+use Rattle.std.proofs.Common.{List, subst, arith}
 use Rattle.std.proofs.lemmas.Result.{err_from_is_err_and}
-use Rattle.llrp_session.specs.ReaderMachine.{Reader}
 use Rattle.llrp_endpoints.specs.declared.script.Entry.{Entry}
 use Rattle.llrp.specs.Calls.Clients.{IsGreater}
 use Rattle.llrp.specs.Calls.GeneralClients.{ServesGeneral}
