@@ -1,5 +1,5 @@
 -- How `sim --all` serves general clients one after another.
-use Rattle.std.specs.Prelude.{◌≡◌, ℕ, ◌+◌, ◌<◌, ◌⊎◌, Bool, true, false, if◌then◌else◌, List, None, Some, Result, Ok, Err}
+use Rattle.std.specs.Prelude.{◌≡◌, ℕ, ◌+◌, ◌<◌, ◌⊎◌, Bool, if◌then◌else◌, List, None, Some, Result, Ok, Err}
 use Rattle.llrp_stream.specs.Device.{SourceLog, SinkLog}
 use Rattle.llrp_stream.specs.Calls.Device.{new_sink, new_source}
 use Rattle.llrp_session.specs.ReaderMachine.{Reader, new_reader}
