@@ -11,8 +11,8 @@
  *  - Texts are octets with a length. No zero octet ends them, neither those that are passed nor those that are written.
  *
  * No call keeps anything between two calls, so calls from several threads need no lock. The functions of listings and of JSON (llrp_list,
- * llrp_list_json, llrp_next, llrp_next_json, llrp_explain, llrp_encode, llrp_encode_json and their _all), llrp_tags and llrp_forms take memory
- * by malloc, and free it before they return; the others take none. Lengths are counted in octets, bits from 0, and bit 0 is the most
+ * llrp_list_json, llrp_next, llrp_next_json, llrp_explain, llrp_encode, llrp_encode_json and their _all), llrp_tags, llrp_forms and
+ * llrp_forms_in_all take memory by malloc, and free it before they return; the others take none. Lengths are counted in octets, bits from 0, and bit 0 is the most
  * significant one of the first octet.
  */
 #ifndef LLRP_H
@@ -60,7 +60,7 @@ enum llrp_status {
     LLRP_ROOM = 3,   /* the room is too small */
     LLRP_LENGTH = 4, /* an argument does not have the length that the call needs */
     LLRP_UTF8 = 5,   /* the text is not UTF-8 */
-    LLRP_LONG = 6,   /* the text has more than 96 octets; only llrp_word_of_key and llrp_word_in_all return it */
+    LLRP_LONG = 6,   /* the text has more than 96 octets; only llrp_word_of_key, llrp_word_of_key_in_all and llrp_word_in_all return it */
     LLRP_MEMORY = 7, /* memory ran out */
     LLRP_MORE = 8,   /* the stream has less than a frame; only llrp_next and its like return it */
 
@@ -71,7 +71,7 @@ enum llrp_status {
     LLRP_REFERENCE = 19, /* the reference has too many digits */
     LLRP_ZEROS = 20,     /* bits that must be zero are not */
     LLRP_SERIAL = 21,    /* the last part is not a 1 and a serial number; only llrp_text_in_all returns it */
-    LLRP_CODE = 22,      /* the code of a USDoD-96 has a wrong character or count; only llrp_text_in_all and llrp_word_in_all return it */
+    LLRP_CODE = 22,      /* the code of a USDoD-96 has a wrong character or count; only llrp_text_in_all, llrp_word_in_all and llrp_word_of_key_in_all return it */
 
     /* The first rule that refuses a tag URI or a raw URI. */
     LLRP_START = 32,
@@ -104,7 +104,7 @@ enum llrp_status {
     LLRP_NODE_TOO_DEEP = 70,
     LLRP_NODE_TOO_LONG = 71,
 
-    /* Why llrp_word_of_key refuses a text, besides the rules of tag URIs and LLRP_LONG. */
+    /* Why llrp_word_of_key and llrp_word_of_key_in_all refuse a text, besides the rules of tag URIs, LLRP_LONG and LLRP_CODE. */
     LLRP_KEY_HEX = 80,    /* the text begins as no other form, and is not 24 hexadecimal digits */
     LLRP_KEY_PREFIX = 81, /* it is not known how many digits the company prefix has */
     LLRP_KEY_LENGTH = 82, /* the key has fewer digits than it has to have */
@@ -195,6 +195,35 @@ uint32_t llrp_forms(const uint8_t *word, size_t word_length, uint8_t *lines, siz
  * LLRP_LENGTH if word_length is not LLRP_WORD_OCTETS, else LLRP_FILTER if filter is above 7, else LLRP_DIGITS if prefix_digits is neither 0
  * nor 6 to 12, else LLRP_UTF8 if the text is not UTF-8. Nothing is written to word unless the status is LLRP_OK. */
 uint32_t llrp_word_of_key(const uint8_t *text, size_t text_length, uint32_t filter, uint32_t prefix_digits, uint8_t *word, size_t word_length, uint32_t *right);
+
+/* The same as llrp_forms in the set of all schemes, as `llrp epc --forms --schemes all` prints the lines: a word of GIAI-96, GSRNP-96, SGCN-96
+ * or CPI-96 has all six forms, and a word of USDoD-96 has tag and hex.
+ *
+ * word         the twelve octets of the word, the first the most significant
+ * word_length  LLRP_WORD_OCTETS
+ * lines        room for the lines; octets after them stay as they were
+ * lines_room   how many octets of room there are
+ * written      where the number of octets of the lines is written
+ *
+ * LLRP_OK. LLRP_LENGTH if word_length is wrong: nothing is written to lines, *written is 0. LLRP_ROOM if the lines are longer than the
+ * room: nothing is written to lines, and *written is the room that they need. LLRP_MEMORY: nothing is written, *written is 0. */
+uint32_t llrp_forms_in_all(const uint8_t *word, size_t word_length, uint8_t *lines, size_t lines_room, size_t *written);
+
+/* The same as llrp_word_of_key in the set of all schemes: the text may also be a key or a pure identity URI of GIAI-96, GSRNP-96, SGCN-96 or
+ * CPI-96, or the tag URI of a word that has one in this set, but not its raw URI.
+ *
+ * text           the text
+ * text_length    how many octets it has
+ * filter         the filter value, 0 to 7, of a key or a pure identity URI, which do not say it
+ * prefix_digits  how many digits the company prefix of a key has, 6 to 12, or 0 if that is not known
+ * word           room for the word
+ * word_length    LLRP_WORD_OCTETS
+ * right          where the right check digit is written, as a character, if the status is LLRP_KEY_CHECK
+ *
+ * LLRP_OK, or the first rule that refuses the text: LLRP_LONG, LLRP_CODE, LLRP_KEY_HEX to LLRP_KEY_SERIAL, or LLRP_START to
+ * LLRP_RAW_OF_LAWFUL. LLRP_LENGTH if word_length is not LLRP_WORD_OCTETS, else LLRP_FILTER if filter is above 7, else LLRP_DIGITS if
+ * prefix_digits is neither 0 nor 6 to 12, else LLRP_UTF8 if the text is not UTF-8. Nothing is written to word unless the status is LLRP_OK. */
+uint32_t llrp_word_of_key_in_all(const uint8_t *text, size_t text_length, uint32_t filter, uint32_t prefix_digits, uint8_t *word, size_t word_length, uint32_t *right);
 
 /* Writes the length of the first frame of a stream to *count, or 0 if the stream has fewer than the six octets that say so. The
  * frame is whole once the stream has *count octets. A length may be up to 4,294,967,295; a caller that does not want to keep that much

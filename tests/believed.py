@@ -59,7 +59,8 @@ PROMISES = {
                " llrp_labels::label_text llrp_labels::plain_text llrp_labels::list_labelled llrp_labels::run_show_labelled"
                " llrp_labels::read_plain llrp_labels::laws::one_labelled_line llrp_labels::laws::keys_follow_lines"
                " llrp_labels::laws::labels_come_off"
-               " llrp_c::llrp_forms llrp_c::llrp_word_of_key llrp_c::llrp_text_in_all llrp_c::llrp_word_in_all",
+               " llrp_c::llrp_forms llrp_c::llrp_word_of_key llrp_c::llrp_forms_in_all llrp_c::llrp_word_of_key_in_all llrp_c::llrp_text_in_all"
+               " llrp_c::llrp_word_in_all",
 }
 
 # What a promise rests on besides: `sim --all`, clients without an end, and what makes a script and a plan.

@@ -27,6 +27,8 @@ static uint32_t (*const text_in_all)(const uint8_t *, size_t, uint8_t *, size_t,
 static uint32_t (*const word_in_all)(const uint8_t *, size_t, uint8_t *, size_t) = llrp_word_in_all;
 static uint32_t (*const forms)(const uint8_t *, size_t, uint8_t *, size_t, size_t *) = llrp_forms;
 static uint32_t (*const word_of_key)(const uint8_t *, size_t, uint32_t, uint32_t, uint8_t *, size_t, uint32_t *) = llrp_word_of_key;
+static uint32_t (*const forms_in_all)(const uint8_t *, size_t, uint8_t *, size_t, size_t *) = llrp_forms_in_all;
+static uint32_t (*const word_of_key_in_all)(const uint8_t *, size_t, uint32_t, uint32_t, uint8_t *, size_t, uint32_t *) = llrp_word_of_key_in_all;
 static size_t (*const name_of)(uint32_t, uint8_t *, size_t) = llrp_name;
 
 /* The word, its text, two frames and an octet of the next, and their listing. */
@@ -48,6 +50,13 @@ static const char FORMS[] = "tag urn:epc:tag:sgtin-96:3.0614141.812345.6789\npur
                             "element (01)80614141123458(21)6789\nlink https://id.gs1.org/01/80614141123458/21/6789\n"
                             "hex 3074257BF7194E4000001A85\nkey gtin 80614141123458 6789\n";
 static const char KEY[] = "(01)80614141123458(21)6789", WRONG_KEY[] = "(01)80614141123451(21)6789";
+/* The forms of that word of SGCN-96, its key, the key with a wrong check digit, and the key of a CPI-96 with its word. */
+static const char COUPON_FORMS[] = "tag urn:epc:tag:sgcn-96:3.4012345.67890.04711\npure urn:epc:id:sgcn:4012345.67890.04711\n"
+                                   "element (255)401234567890104711\nlink https://id.gs1.org/255/401234567890104711\n"
+                                   "hex 3F74F4E4E612640000019907\nkey gcn 4012345678901 04711\n";
+static const char COUPON_KEY[] = "(255)401234567890104711", WRONG_COUPON[] = "(255)401234567890204711";
+static const char PART_KEY[] = "cpi 061414198765 12345";
+static const uint8_t PART[] = {0x3C, 0x74, 0x25, 0x7B, 0xF4, 0x00, 0xC0, 0xE6, 0x80, 0x00, 0x30, 0x39};
 /* A message that the profile leaves out: GET_READER_CAPABILITIES, number 1, of eleven octets, which asks for all. */
 static const uint8_t REQUEST[] = {8, 1, 0, 0, 0, 11, 0, 0, 0, 7, 0};
 static const char FAULT[] = "! 7 6 MessageType\n";
@@ -152,6 +161,36 @@ static void check_keys(void) {
     check("no filter value", status == LLRP_FILTER && holds("", 0));
     status = word_of_key(octets_of(KEY), KEY_LENGTH, 3, 7, out, LLRP_WORD_OCTETS - 1, &right);
     check("word of a key, too little room", status == LLRP_LENGTH && right == 0 && holds("", 0));
+}
+
+static void check_keys_in_all(void) {
+    enum { LENGTH = sizeof COUPON_FORMS - 1, COUPON_KEY_LENGTH = sizeof COUPON_KEY - 1 };
+    size_t written = 99;
+    uint32_t status = forms_in_all(COUPON, sizeof COUPON, out, LENGTH, &written);
+    check("forms of a coupon", status == LLRP_OK && written == LENGTH && holds(COUPON_FORMS, LENGTH));
+    status = forms_in_all(COUPON, sizeof COUPON, out, LENGTH - 1, &written);
+    check("forms of a coupon, too little room", status == LLRP_ROOM && written == LENGTH && holds("", 0));
+    status = forms_in_all(COUPON, sizeof COUPON - 1, out, LENGTH, &written);
+    check("forms of eleven octets in all schemes", status == LLRP_LENGTH && written == 0 && holds("", 0));
+    status = forms_in_all(WORD, sizeof WORD, out, FORMS_LENGTH, &written);
+    check("forms in all schemes", status == LLRP_OK && written == FORMS_LENGTH && holds(FORMS, FORMS_LENGTH));
+    uint32_t right = 99;
+    status = word_of_key_in_all(octets_of(COUPON_KEY), COUPON_KEY_LENGTH, 3, 7, out, LLRP_WORD_OCTETS, &right);
+    check("word of a coupon's key", status == LLRP_OK && right == 0 && holds(COUPON, sizeof COUPON));
+    status = word_of_key_in_all(octets_of(WRONG_COUPON), COUPON_KEY_LENGTH, 3, 7, out, LLRP_WORD_OCTETS, &right);
+    check("a coupon's wrong check digit", status == LLRP_KEY_CHECK && right == '1' && holds("", 0));
+    status = word_of_key_in_all(octets_of(COUPON_KEY), COUPON_KEY_LENGTH, 3, 0, out, LLRP_WORD_OCTETS, &right);
+    check("a coupon's unknown company prefix", status == LLRP_KEY_PREFIX && right == 0 && holds("", 0));
+    status = word_of_key_in_all(octets_of(PART_KEY), sizeof PART_KEY - 1, 3, 7, out, LLRP_WORD_OCTETS, &right);
+    check("word of a part's key", status == LLRP_OK && right == 0 && holds(PART, sizeof PART));
+    status = word_of_key_in_all(octets_of(KEY), KEY_LENGTH, 3, 7, out, LLRP_WORD_OCTETS, &right);
+    check("word of a key in all schemes", status == LLRP_OK && right == 0 && holds(WORD, sizeof WORD));
+    status = word_of_key_in_all(octets_of(COUPON_KEY), COUPON_KEY_LENGTH, 8, 7, out, LLRP_WORD_OCTETS, &right);
+    check("no filter value in all schemes", status == LLRP_FILTER && holds("", 0));
+    status = word_of_key_in_all(octets_of(COUPON_KEY), COUPON_KEY_LENGTH, 3, 7, out, LLRP_WORD_OCTETS - 1, &right);
+    check("word of a coupon's key, too little room", status == LLRP_LENGTH && right == 0 && holds("", 0));
+    status = word_of_key(octets_of(COUPON_KEY), COUPON_KEY_LENGTH, 3, 7, out, LLRP_WORD_OCTETS, &right);
+    check("a coupon's key among the seven schemes", status == LLRP_START && holds("", 0));
 }
 
 static void check_streams(void) {
@@ -293,6 +332,7 @@ int main(void) {
     check_tags();
     check_all_schemes();
     check_keys();
+    check_keys_in_all();
     check_streams();
     check_all();
     check_json();

@@ -1,8 +1,8 @@
 #!/usr/bin/env python3
 """Compares the keys that `epc --list` makes of random tag URIs with what Debian's python3-stdnum finds in them: their check digits, and the
 values of their element strings. Each key is also read back to the word of its tag URI, some are answered as objects of JSON, those of a
-listing that `show --keys` prints are compared and read back by `encode --keys`, and those of a simulated reader's tags by `inventory --keys`. Random
-words of USDoD-96 and their tag URIs are compared with those that are made of the layout here, by `epc --schemes all`.
+listing that `show --keys` prints are compared and read back by `encode --keys`, and those of a simulated reader's tags by `inventory --keys`, also
+of further schemes with `--schemes all`. Random words of USDoD-96 and their tag URIs are compared with those that are made of the layout here, by `epc --schemes all`.
 
 usage: tests/keys.py [PROGRAM]
 
@@ -20,7 +20,7 @@ from parts.repository import program_given
 EACH = 300
 # How many of them are answered as objects of JSON, for each length of the company prefix.
 OBJECTS = 3
-LEAST = 6 * EACH * 3 + 6 * 7 * (OBJECTS * 2 + 4) + EACH * 7
+LEAST = 6 * EACH * 3 + 6 * 7 * (OBJECTS * 2 + 4) + 4 * 7 * 6 + EACH * 7
 # The names of the keys of those schemes.
 NAMES = {"sgtin": "gtin", "sscc": "sscc", "sgln": "gln", "grai": "grai", "gdti": "gdti", "gsrn": "gsrn"}
 # The digits of company prefix and reference together, the digits of the reference that come first in the key, the application identifier and
@@ -33,6 +33,10 @@ SCHEMES = {
     "gdti": (12, 0, "(253)", ""),
     "gsrn": (17, 0, "(8018)", None),
 }
+# The further schemes with keys: the key's name, how many digits company prefix and reference have together, or None where a reference has as
+# many as it needs, and whether a check digit follows (TDS 1.13, sections 7 and 14).
+FURTHER = {"giai": ("giai", None, False), "gsrnp": ("gsrnp", 17, True), "sgcn": ("gcn", 12, True), "cpi": ("cpi", None, False)}
+ALL_SCHEMES = ("--schemes", "all")
 # The characters of a code of USDoD-96.
 CODE = "0123456789ABCDEFGHJKLMNPQRSTUVWXYZ"
 # What Debian's Python says of lines: a check digit for digits, and the values of an element string.
@@ -132,6 +136,78 @@ def inventories(program, scheme, tags, told):
     yield f"the keys of an inventory of {scheme}", seen == [*wanted, [("report", len(tags))], [("tags", len(tags)), ("reports", 1)]]
 
 
+def further_tags(scheme, company_digits):
+    """Yields random tag URIs of a further scheme, and for each the digits of its key before a check digit, and its serial number."""
+    _, count, _ = FURTHER[scheme]
+    most = 15 - company_digits if scheme == "cpi" else 12  # (so many digits are below each bound of the layout)
+    for _ in range(EACH // 7 + 1):
+        company = digits(company_digits)
+        reference = digits(count - company_digits) if count else str(random.randrange(10 ** random.randint(1, most)))
+        number = {"sgcn": digits(random.randint(1, 12)), "cpi": str(random.randrange(2**31))}.get(scheme)
+        parts = [str(random.randrange(8)), company, reference, *([number] if number else [])]
+        yield f"urn:epc:tag:{scheme}-96:{'.'.join(parts)}", company + reference, number
+
+
+def further_keys(scheme, tags):
+    """Returns the name, the number and the serial number of the key of each tag URI of a further scheme; the judge gives the check digits, and
+    has to find the number in the element string of a GIAI and of a GSRN."""
+    name, _, is_checked = FURTHER[scheme]
+    told = judged([(front, "") for _, front, _ in tags])
+    keys = [(name, front + (digit if is_checked else ""), number) for (_, front, number), (digit, _) in zip(tags, told)]
+    identifier = {"giai": "8004", "gsrnp": "8017"}.get(scheme)
+    if identifier:
+        values = judged([("0", f"({identifier}){number}") for _, number, _ in keys])
+        assert all(found == {identifier: number} for (_, number, _), (_, found) in zip(keys, values))
+    return keys
+
+
+def further_listings(program, scheme, tags, keys):
+    """Yields whether `show --keys --schemes all` puts the keys of a further scheme after the EPCs of a report, and `show --keys` none, and
+    whether `encode --keys --schemes all` reads that, and refuses another key."""
+    head, texts = "0 RO_ACCESS_REPORT 1 1\n", [tag for tag, _, _ in tags]
+    labels = [" ".join(filter(None, key)) for key in keys]
+    listing = head + "".join(f"1 TagReportData\n2 EPC-96 {text}\n" for text in texts)
+    labelled = head + "".join(f"1 TagReportData\n2 EPC-96 {text}\t{label}\n" for text, label in zip(texts, labels))
+    stream = run(program, "encode", *ALL_SCHEMES, input=listing.encode()).stdout
+    shown = run(program, "show", "--keys", *ALL_SCHEMES, input=stream).stdout.decode()
+    yield f"the keys of a listing of {scheme}", shown == labelled
+    yield f"a listing of {scheme} among the seven schemes", b"\t" not in run(program, "show", "--keys", input=stream).stdout
+    back = run(program, "encode", "--keys", *ALL_SCHEMES, input=labelled.encode()).stdout
+    yield f"the stream of a listing of {scheme} with keys", (back, back[:2]) == (stream, b"\x04\x3d")
+    wrong = labelled.replace(labels[0], labels[0][:-1] + str((int(labels[0][-1]) + 1) % 10), 1)
+    done = run(program, "encode", "--keys", *ALL_SCHEMES, input=wrong.encode())
+    yield f"a wrong key in a listing of {scheme}: {done.stderr}", (done.stdout, done.stderr, done.returncode) == (b"", b"llrp: line 3: Epc Key\n", 1)
+
+
+def further_inventories(program, scheme, tags, keys):
+    """Yields whether `inventory --json --keys --schemes all` prints the keys of a further scheme as the last members of the tags that a simulated
+    reader sees, and without `--schemes all` none."""
+    words = answers(program, [tag for tag, _, _ in tags], "--to", "hex", *ALL_SCHEMES)
+    script = "".join(f"3 {at} seen 1 -60 urn:epc:raw:96.x{word}\n" for at, word in enumerate(words))
+    for options in ((), ALL_SCHEMES):
+        with subprocess.Popen([program, "sim", "0", "--ready"], stdin=subprocess.PIPE, stderr=subprocess.PIPE, text=True) as reader:
+            reader.stdin.write(script)
+            reader.stdin.close()
+            port = reader.stderr.readline().rpartition(":")[2].strip()
+            lines = run(program, "inventory", "127.0.0.1", port, "--json", "--keys", *options, input=b"").stdout.splitlines()
+        seen = [list(json.loads(line).items()) for line in lines]
+        wanted = [[("epc", f"urn:epc:raw:96.x{word}"), ("antenna", 1), ("rssi", -60)] for word in words]
+        if options:
+            members = [[(name, number), *([("serial", serial)] if serial else [])] for name, number, serial in keys]
+            wanted = [[("epc", tag), ("antenna", 1), ("rssi", -60), *key] for (tag, _, _), key in zip(tags, members)]
+        yield f"an inventory of {scheme} with {options}", seen == [*wanted, [("report", len(tags))], [("tags", len(tags)), ("reports", 1)]]
+
+
+def further(program):
+    """Yields whether the keys of further schemes are those of their tag URIs, in listings and in inventories."""
+    for scheme in FURTHER:
+        for company_digits in range(6, 13):
+            tags = list(further_tags(scheme, company_digits))
+            keys = further_keys(scheme, tags)
+            yield from further_listings(program, scheme, tags, keys)
+            yield from further_inventories(program, scheme, tags, keys)
+
+
 def supplier_word(value, six, serial):
     """Returns the digits of the word of USDoD-96 that a filter value, six characters and a serial number make."""
     return f"{0x2F << 88 | value << 84 | int.from_bytes(six.encode('latin-1'), 'big') << 36 | serial:024X}"
@@ -193,6 +269,7 @@ def checks(program):
                 yield f"the values of {element}: {values_told}", not values_told or values_told == values
                 yield f"the word of {element}", word == back
             yield from objects(program, company_digits, elements, told)
+    yield from further(program)
     yield from suppliers(program)
 
 

@@ -48,13 +48,16 @@ def declare(library: ctypes.CDLL) -> None:
     listed = (*octets, *octets, pointer(size), pointer(size))
     encoded = (*octets, *octets, pointer(size), pointer(ctypes.c_uint64))
     packed = (*encoded, *octets, pointer(size))
+    keyed = (*octets, ctypes.c_uint32, ctypes.c_uint32, *octets, pointer(ctypes.c_uint32))
     for name, arguments in {
         "llrp_text_of_word": (*octets, *octets, pointer(size), pointer(ctypes.c_uint32)),
         "llrp_word_of_text": (*octets, *octets),
         "llrp_text_in_all": (*octets, *octets, pointer(size), pointer(ctypes.c_uint32)),
         "llrp_word_in_all": (*octets, *octets),
         "llrp_forms": (*octets, *octets, pointer(size)),
-        "llrp_word_of_key": (*octets, ctypes.c_uint32, ctypes.c_uint32, *octets, pointer(ctypes.c_uint32)),
+        "llrp_word_of_key": keyed,
+        "llrp_forms_in_all": (*octets, *octets, pointer(size)),
+        "llrp_word_of_key_in_all": keyed,
         "llrp_frame_length": (*octets, pointer(size)),
         "llrp_list": listed,
         "llrp_list_all": listed,

@@ -90,24 +90,27 @@ class Llrp:
 
     # ---- keys
 
-    def forms(self, word: Octets) -> Dict[str, str]:
+    def forms(self, word: Octets, all_schemes: bool = False) -> Dict[str, str]:
         """Returns each form of a tag's word by its name, as `llrp epc --forms` prints them: tag and hex, and where the word has them pure,
-        element, link and key."""
+        element, link and key.
+
+        With all_schemes=True words of GIAI-96, GSRNP-96, SGCN-96 and CPI-96 have these forms too, and those of USDoD-96 tag URIs."""
+        function = self.library.llrp_forms_in_all if all_schemes else self.library.llrp_forms
         written = ctypes.c_size_t()
-        status, lines = _library.filled(self.library.llrp_forms, word, _library.FORMS_ROOM, written, written)
+        status, lines = _library.filled(function, word, _library.FORMS_ROOM, written, written)
         if status != _library.OK:
             raise self._refusal(status)
         return dict(line.split(" ", 1) for line in lines.decode().splitlines())
 
-    def word(self, text: str, filter: int = 0, prefix_digits: Optional[int] = None) -> bytes:
+    def word(self, text: str, filter: int = 0, prefix_digits: Optional[int] = None, all_schemes: bool = False) -> bytes:
         """Returns the twelve octets of a text in any form: a GS1 key, a pure identity URI, a tag URI, a raw URI or 24 digits.
 
         A key and a pure identity URI do not say the filter value, 0 to 7, and a key not how many digits its company prefix has, 6 to 12:
-        without it no key is read. Raises Refused with the first rule that refuses the text; of a wrong check digit `right` is the right
-        one."""
+        without it no key is read. With all_schemes=True the text may be of GIAI-96, GSRNP-96, SGCN-96, CPI-96 or USDoD-96 too. Raises Refused
+        with the first rule that refuses the text; of a wrong check digit `right` is the right one."""
         octets, word, right = text.encode(), ctypes.create_string_buffer(_library.WORD_OCTETS), ctypes.c_uint32()
         unsaid = (_library.number(filter), _library.number(prefix_digits or 0))
-        function = self.library.llrp_word_of_key
+        function = self.library.llrp_word_of_key_in_all if all_schemes else self.library.llrp_word_of_key
         status: int = function(octets, len(octets), *unsaid, word, _library.WORD_OCTETS, ctypes.byref(right))
         if status != _library.OK:
             raise self._refusal(status, right=chr(right.value) if right.value else "")

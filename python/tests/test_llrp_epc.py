@@ -124,12 +124,82 @@ WORD_FORMS = {
 KEYS = [("(00)106141412345678908", 3, 7, "3174257BF4499602D2000000"), ("gln 0614141123452 5678", 3, 7, "3274257BF46072000000162E")]
 
 
+# The words of GIAI-96, GSRNP-96, SGCN-96 and CPI-96 with filter value 3 and a company prefix of seven digits, and their forms between tag URI and
+# digits (TDS 1.13, sections 6 and 7, and appendix E).
+FURTHER = [
+    (
+        "3474257BF40000000000162E",
+        "urn:epc:tag:giai-96:3.0614141.5678",
+        ["urn:epc:id:giai:0614141.5678", "(8004)06141415678", "https://id.gs1.org/8004/06141415678", "giai 06141415678"],
+    ),
+    (
+        "2E74257BF4499602D2000000",
+        "urn:epc:tag:gsrnp-96:3.0614141.1234567890",
+        [
+            "urn:epc:id:gsrnp:0614141.1234567890",
+            "(8017)061414112345678902",
+            "https://id.gs1.org/8017/061414112345678902",
+            "gsrnp 061414112345678902",
+        ],
+    ),
+    (
+        "3F74F4E4E612640000019907",
+        "urn:epc:tag:sgcn-96:3.4012345.67890.04711",
+        [
+            "urn:epc:id:sgcn:4012345.67890.04711",
+            "(255)401234567890104711",
+            "https://id.gs1.org/255/401234567890104711",
+            "gcn 4012345678901 04711",
+        ],
+    ),
+    (
+        "3C74257BF400C0E680003039",
+        "urn:epc:tag:cpi-96:3.0614141.98765.12345",
+        [
+            "urn:epc:id:cpi:0614141.98765.12345",
+            "(8010)061414198765(8011)12345",
+            "https://id.gs1.org/8010/061414198765/8011/12345",
+            "cpi 061414198765 12345",
+        ],
+    ),
+]
+
+
 def test_forms(llrp: Llrp) -> None:
     assert llrp.forms(WORD) == WORD_FORMS
     raw = bytes.fromhex("E20000000000000000000001")
     assert llrp.forms(raw) == {"tag": f"urn:epc:raw:96.x{raw.hex().upper()}", "hex": raw.hex().upper()}
     with pytest.raises(Refused, match="^Length$"):
         llrp.forms(WORD[1:])
+
+
+@pytest.mark.parametrize(("digits", "tag", "others"), FURTHER)
+def test_forms_of_further_schemes(llrp: Llrp, digits: str, tag: str, others: List[str]) -> None:
+    word = bytes.fromhex(digits)
+    texts = [tag, *others[:3], digits, others[3]]
+    assert llrp.forms(word, all_schemes=True) == dict(zip(["tag", "pure", "element", "link", "hex", "key"], texts))
+    assert llrp.forms(word) == {"tag": f"urn:epc:raw:96.x{digits}", "hex": digits}
+    for text in texts:
+        assert llrp.word(text, filter=3, prefix_digits=7, all_schemes=True) == word
+        if text != digits:
+            with pytest.raises(Refused):
+                llrp.word(text, filter=3, prefix_digits=7)
+
+
+def test_forms_in_all_schemes(llrp: Llrp) -> None:
+    assert llrp.forms(WORD, all_schemes=True) == WORD_FORMS
+    for text in WORD_FORMS.values():
+        assert llrp.word(text, filter=3, prefix_digits=7, all_schemes=True) == WORD
+    supplier = {"tag": "urn:epc:tag:usdod-96:3.2S194.12345678901", "hex": "2F32032533139342DFDC1C35"}
+    assert llrp.forms(bytes.fromhex(supplier["hex"]), all_schemes=True) == supplier
+    for text, said in [("(255)401234567890204711", "Check 1"), ("(8010)061414198765", "Serial"), ("(8004)0614141", "Length")]:
+        with pytest.raises(Refused) as caught:
+            llrp.word(text, filter=3, prefix_digits=7, all_schemes=True)
+        assert str(caught.value) == said
+    with pytest.raises(Refused, match="^Prefix$"):
+        llrp.word("giai 06141415678", filter=3, all_schemes=True)
+    with pytest.raises(Refused, match="^Length$"):
+        llrp.forms(WORD[1:], all_schemes=True)
 
 
 def test_words_of_forms(llrp: Llrp) -> None:

@@ -15,12 +15,16 @@ use Rattle.llrp_c.specs.declared.status.Status.TheVariants.{Done, Room, Memory, 
 use Rattle.llrp_c.specs.Status.{code_of}
 use Rattle.llrp_c.specs.Tags.{AreOctetsOf}
 
--- The lines of the forms of the word that the octets spell were written; or they have more octets than the room, and their number is returned; or memory ran out.
-abbrev pub WritesForms : (octets old new : List ℕ) (count code : ℕ) → Type 0
-WritesForms octets old new count code =
-    ((word : ℕ) × (text : List ℕ) × AreOctetsOf octets word × AreFormLines word text × HasText old new 0 count text × (code ≡ code_of Done))
-    ⊎ ((word : ℕ) × (text : List ℕ) × AreOctetsOf octets word × AreFormLines word text × (length old < length text) × (count ≡ length text) × (new ≡ old) × (code ≡ code_of Room))
+-- The lines of the word that the octets spell were written; or they have more octets than the room, and their number is returned; or memory ran out.
+abbrev pub WritesLines : (ℕ → List ℕ → Type 0) → (octets old new : List ℕ) (count code : ℕ) → Type 0
+WritesLines AreLines octets old new count code =
+    ((word : ℕ) × (text : List ℕ) × AreOctetsOf octets word × AreLines word text × HasText old new 0 count text × (code ≡ code_of Done))
+    ⊎ ((word : ℕ) × (text : List ℕ) × AreOctetsOf octets word × AreLines word text × (length old < length text) × (count ≡ length text) × (new ≡ old) × (code ≡ code_of Room))
     ⊎ ((new ≡ old) × (count ≡ 0) × (code ≡ code_of Memory))
+
+-- the lines of the word's forms
+abbrev pub WritesForms : (octets old new : List ℕ) (count code : ℕ) → Type 0
+WritesForms octets old new count code = WritesLines AreFormLines octets old new count code
 
 -- the status of a rule that refuses a key; a rule of tag URIs has its own status, and so has one of the same name
 abbrev pub key_status : KeyFault → Status

@@ -4,6 +4,7 @@ pub mod Reports
 pub mod Status
 pub mod Tags
 pub mod AllSchemes
+pub mod AllKeys
 pub mod JsonLines
 pub mod Keys
 pub mod Calls

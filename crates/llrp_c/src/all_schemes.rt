@@ -66,7 +66,7 @@ pub extern "C" fn llrp_text_in_all(
 }
 
 /// The status of a rule that refuses a text.
-fn fault_status(fault: SchemeFault) -> Status
+pub(crate) fn fault_status(fault: SchemeFault) -> Status
     ensures { result ≡ fault_status fault }
 {
     match fault {

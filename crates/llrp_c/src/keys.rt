@@ -1,10 +1,11 @@
 //! Keys: the forms of a tag's word, and the word of a text in any of them.
 
-ghost use Rattle.std.specs.Prelude.{◌≡◌, ◌≢◌, ◌<◌, ◌≤◌, IfSome, length, true, false};
+ghost use Rattle.std.specs.Prelude.{◌≡◌, ◌≢◌, ◌<◌, ◌≤◌, IfErr, IfOk, IfSome, length, true, false};
 ghost use Rattle.std.specs.Int.{IsInRange};
 ghost use Rattle.std.specs.Str.{IsUtf8};
 ghost use Rattle.llrp_c.specs.declared.status.Status.TheVariants.{Length, Uri, Utf8};
 ghost use Rattle.llrp_c.specs.Keys.{ReadsInForm, WritesForms, form_status, is_count, key_status, known, right_of};
+ghost use Rattle.llrp_c.specs.Private.Keys.{IsReadable, IsUnreadable, PutsLines};
 ghost use Rattle.llrp_c.specs.Status.{code_of};
 ghost use Rattle.tag_uri.specs.declared.fault.UriFault.TheVariants.{Filter, Digits};
 
@@ -16,6 +17,18 @@ use std::str;
 use tag_forms::{FormFault, form_of, push_forms, word_in};
 use tag_keys::KeyFault;
 use tag_uri::UriFault;
+
+/// Writes a text to the front of the room, unless that is too small, and its length to `written`.
+pub(crate) fn put_lines(text: &[u8], lines: &mut [u8], written: &mut usize) -> u32
+    ensures { PutsLines text.now lines.old lines.new written.new result }
+{
+    *written = text.len();
+    if lines.len() < text.len() {
+        return Status::Room.code();
+    }
+    put(text, lines);
+    Status::Done.code()
+}
 
 /// Writes a line for each form of a tag's word to `lines`, as `epc --forms` prints them, and their length to
 /// `written`.
@@ -38,12 +51,7 @@ pub extern "C" fn llrp_forms(
     let Ok(()) = push_forms(&mut text, word_of(word)) else {
         return Status::Memory.code();
     };
-    *written = text.len();
-    if lines.len() < text.len() {
-        return Status::Room.code();
-    }
-    put(text.as_slice(), lines);
-    Status::Done.code()
+    put_lines(text.as_slice(), lines, written)
 }
 
 /// The status of a rule that refuses a key.
@@ -63,7 +71,7 @@ fn key_status(fault: KeyFault) -> Status
 }
 
 /// The status of a rule that refuses a text in a form.
-fn form_status(fault: FormFault) -> Status
+pub(crate) fn form_status(fault: FormFault) -> Status
     ensures { result ≡ form_status fault }
 {
     match fault {
@@ -75,7 +83,7 @@ fn form_status(fault: FormFault) -> Status
 }
 
 /// The right check digit, as a character, where a wrong one refuses a text; else 0.
-fn right_of(fault: FormFault) -> u32
+pub(crate) fn right_of(fault: FormFault) -> u32
     ensures { result ≡ right_of fault }
 {
     match fault {
@@ -92,7 +100,7 @@ fn is_count(prefix_digits: u32) -> bool
 }
 
 /// The number of digits, if it is known.
-fn known(prefix_digits: u32) -> Option<u8>
+pub(crate) fn known(prefix_digits: u32) -> Option<u8>
     requires { is_count prefix_digits ≡ true }
     ensures count { result ≡ known prefix_digits }
     ensures range { IfSome result (λ count. IsInRange 6 12 count) }
@@ -101,6 +109,33 @@ fn known(prefix_digits: u32) -> Option<u8>
         None
     } else {
         Some(prefix_digits as u8)
+    }
+}
+
+/// The text of a key, if it, the filter value, the number of digits and the room for the word are as they have to be;
+/// else the status of the first that is not.
+pub(crate) fn readable<'a>(
+    text: &'a [u8],
+    filter: u32,
+    prefix_digits: u32,
+    word: &[u8],
+) -> Result<&'a str, Status>
+    ensures same { IfOk result (λ read. read.now ≡ text.now) }
+    ensures ok { IfOk result (λ _. IsReadable text.now filter prefix_digits word.now) }
+    ensures err { IfErr result (λ status. IsUnreadable text.now filter prefix_digits word.now status) }
+{
+    if word.len() != WORD_OCTETS {
+        return Err(Status::Length);
+    }
+    if filter >= 8 {
+        return Err(Status::Uri(UriFault::Filter));
+    }
+    if !is_count(prefix_digits) {
+        return Err(Status::Uri(UriFault::Digits));
+    }
+    match str::from_utf8(text) {
+        Ok(text) => Ok(text),
+        Err(_) => Err(Status::Utf8),
     }
 }
 
@@ -148,21 +183,12 @@ pub extern "C" fn llrp_word_of_key(
         → (result ≡ code_of Utf8) × (word.new ≡ word.old) × (right.new ≡ 0) }
 {
     *right = 0;
-    if word.len() != WORD_OCTETS {
-        return Status::Length.code();
-    }
-    if filter >= 8 {
-        return Status::Uri(UriFault::Filter).code();
-    }
-    if !is_count(prefix_digits) {
-        return Status::Uri(UriFault::Digits).code();
-    }
-    match str::from_utf8(text) {
+    match readable(text, filter, prefix_digits, word) {
         Ok(text) => {
             let (status, digit) = read(text, filter as u8, known(prefix_digits), word);
             *right = digit;
             status.code()
         }
-        Err(_) => Status::Utf8.code(),
+        Err(status) => status.code(),
     }
 }

@@ -13,6 +13,7 @@
 //! ```
 #![tactic(auto)]
 
+mod all_keys;
 mod all_schemes;
 mod explaining;
 mod frames;

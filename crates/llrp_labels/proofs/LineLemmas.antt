@@ -20,7 +20,7 @@ use Rattle.tag_forms.specs.declared.form.Form.TheVariants.{Key}
 use Rattle.llrp_listing.specs.Calls.Splits.{Lacks}
 use Rattle.llrp_listing.proofs.SplitWords.{lacks_not, lacks_append}
 use Rattle.llrp_labels.specs.declared.labels.Labels.{Labels}
-use Rattle.llrp_labels.specs.LabelledLines.{HasLastWord, IsTextAmong, EndsInWord, IsMark, IsLabelled, IsUri, NoUri, ReadsLine, IsListed}
+use Rattle.llrp_labels.specs.LabelledLines.{HasLastWord, IsTextAmong, IsKeyAmong, EndsInWord, IsMark, IsLabelled, IsUri, NoUri, ReadsLine, IsListed}
 use Rattle.llrp_labels.proofs.VisibleTexts.{among_utf8, among_visible, visible_lacks}
 
 last_same : (a b x y : List ℕ) → Lacks 32 x → Lacks 32 y → a ++ (32 ∷ x) ≡ b ++ (32 ∷ y) → (a ≡ b) × (x ≡ y)
@@ -125,7 +125,7 @@ bare s k line labelled front text word l h is e = (
   inl (front, h.text, word, subst (λ (t : List ℕ). EndsInWord s t front word) (sym e) (ends_again s front text word h.below is), tt, h.is, h.last.is),
 )
 
-off : (s k : Bool) (line labelled front text mark : List ℕ) (word : ℕ) → IsListed line → EndsInWord false line front word → IsTextAmong s word text → IsMark k word mark → labelled ≡ front ++ 32 ∷ (text ++ mark)
+off : (s k : Bool) (line labelled front text mark : List ℕ) (word : ℕ) → IsListed line → EndsInWord false line front word → IsTextAmong s word text → IsMark s k word mark → labelled ≡ front ++ 32 ∷ (text ++ mark)
     → ReadsLine (record { schemes = s; keys = k }) labelled line
 off s true line labelled front text mark word l h is (inl (key, key_is, m)) e = (
   front ++ 32 ∷ text,
@@ -158,18 +158,23 @@ one_among : (schemes : Bool) (word : ℕ) (s t : List ℕ) → IsTextAmong schem
 one_among true word s t h k = same_text_in word s t h k
 one_among false word s t h k = texts_same word s t h k
 
-one_mark : (keys : Bool) (word : ℕ) (s t : List ℕ) → IsMark keys word s → IsMark keys word t → s ≡ t
-one_mark true word s t (inl (a, p, e)) (inl (b, q, f)) = e ∙ ap (λ (z : List ℕ). 9 ∷ z) (one_text Key word a b p q) ∙ sym f
-one_mark true word s t (inl (a, p, e)) (inr (none, f)) = absurd (none a p)
-one_mark true word s t (inr (none, e)) (inl (b, q, f)) = absurd (none b q)
-one_mark true word s t (inr (none, e)) (inr (never, f)) = e ∙ sym f
-one_mark false word s t e f = e ∙ sym f
+-- a word's EPC has one key
+pub one_key : (schemes : Bool) (word : ℕ) (s t : List ℕ) → IsKeyAmong schemes word s → IsKeyAmong schemes word t → s ≡ t
+one_key true word s t h k = one_text Key word s t h k
+one_key false word s t h k = one_text Key word s t h k
+
+one_mark : (schemes keys : Bool) (word : ℕ) (s t : List ℕ) → IsMark schemes keys word s → IsMark schemes keys word t → s ≡ t
+one_mark schemes true word s t (inl (a, p, e)) (inl (b, q, f)) = e ∙ ap (λ (z : List ℕ). 9 ∷ z) (one_key schemes word a b p q) ∙ sym f
+one_mark schemes true word s t (inl (a, p, e)) (inr (none, f)) = absurd (none a p)
+one_mark schemes true word s t (inr (none, e)) (inl (b, q, f)) = absurd (none b q)
+one_mark schemes true word s t (inr (none, e)) (inr (never, f)) = e ∙ sym f
+one_mark schemes false word s t e f = e ∙ sym f
 
 pub one_labelled : (labels : Labels) (line a b : List ℕ) → IsLabelled labels line a → IsLabelled labels line b → a ≡ b
 one_labelled labels line a b (inl (front, text, mark, word, h, is, marked, e)) (inl (before, other, sign, number, k, so, signed, f)) =
     let same = one_ending false line front before word number h k in
     let t : text ≡ other = one_among labels.schemes word text other is (subst (λ (w : ℕ). IsTextAmong labels.schemes w other) (sym same.1) so) in
-    let m : mark ≡ sign = one_mark labels.keys word mark sign marked (subst (λ (w : ℕ). IsMark labels.keys w sign) (sym same.1) signed) in
+    let m : mark ≡ sign = one_mark labels.schemes labels.keys word mark sign marked (subst (λ (w : ℕ). IsMark labels.schemes labels.keys w sign) (sym same.1) signed) in
     e ∙ ap (λ (z : List ℕ). z ++ 32 ∷ (text ++ mark)) same.0 ∙ ap (λ (z : List ℕ). before ++ 32 ∷ (z ++ mark)) t ∙ ap (λ (z : List ℕ). before ++ 32 ∷ (other ++ z)) m ∙ sym f
 one_labelled labels line a b (inl (front, text, mark, word, h, is, marked, e)) (inr (none, f)) = absurd (none front word h)
 one_labelled labels line a b (inr (none, e)) (inl (front, text, mark, word, h, is, marked, f)) = absurd (none front word h)

@@ -1,5 +1,5 @@
 -- The text of the EPC in a line of a tag.
-use Rattle.std.proofs.Common.{◌≡◌, ℕ, Option, Some, None, ◌-◌, ◌^◌, ◌<◌, true, false, nat_eq, List, [], ◌∷◌, ◌++◌, length, take, drop, codes, refl, sym, ap, subst, ◌∙◌, arith, append_assoc, length-append}
+use Rattle.std.proofs.Common.{◌≡◌, ℕ, Bool, Option, Some, None, ◌-◌, ◌^◌, ◌<◌, true, false, nat_eq, List, [], ◌∷◌, ◌++◌, length, take, drop, codes, refl, sym, ap, subst, ◌∙◌, arith, append_assoc, length-append}
 use Rattle.std.specs.Prelude.{Result, Ok, Err, IfOk, is_ok, if◌then◌else◌}
 use Rattle.std.specs.Cmp.Lexicographic.{pointwise, same_text}
 use Rattle.std.proofs.lemmas.Cmp.{nat_list_eq_equiv}
@@ -8,9 +8,8 @@ use Rattle.tag_uri.specs.TagText.{IsTextOf}
 use Rattle.llrp_listing.specs.Calls.Splits.{Lacks, IsSplit}
 use Rattle.llrp_listing.proofs.SplitWords.{lacks_not, one_split}
 use Rattle.llrp_keys.specs.NamedKey.{IsNamedKey}
-use Rattle.tag_forms.specs.declared.form.Form.TheVariants.{Key}
-use Rattle.tag_forms.specs.Forms.{IsTextIn}
-use Rattle.tag_forms.proofs.FormLemmas.{one_text}
+use Rattle.llrp_labels.specs.LabelledLines.{IsKeyAmong}
+use Rattle.llrp_labels.proofs.LineLemmas.{one_key}
 use Rattle.llrp_labels.specs.LabelledTags.{IsKeyOfWord, IsObject, IsWordText, object_start}
 
 -- ---- fronts and ends of a text
@@ -90,10 +89,10 @@ named_splits key name number None k = (number, k.0)
 named_splits key name number (Some serial) k = (k.0, k.1)
 
 -- a word whose key has no blank has no parts of a key
-pub no_parts : (word : ℕ) (text name number : List ℕ) (serial : Option (List ℕ)) → IsTextIn Key word text → Lacks 32 text → IsKeyOfWord word name number serial → ⊥
-no_parts word text name number serial is lacks h =
+pub no_parts : (schemes : Bool) (word : ℕ) (text name number : List ℕ) (serial : Option (List ℕ)) → IsKeyAmong schemes word text → Lacks 32 text → IsKeyOfWord schemes word name number serial → ⊥
+no_parts schemes word text name number serial is lacks h =
     let (rest, split) = named_splits h.0 name number serial h.2 in
-    lacks_not 32 text name rest lacks (one_text Key word text h.0 is h.1 ∙ split.1)
+    lacks_not 32 text name rest lacks (one_key schemes word text h.0 is h.1 ∙ split.1)
 
 -- ---- parts
 

@@ -7,6 +7,7 @@ use Rattle.tag_schemes.specs.AllTexts.{IsTextInAll, HasFaultInAll}
 use Rattle.tag_schemes.specs.declared.fault.SchemeFault.{SchemeFault}
 use Rattle.tag_forms.specs.declared.form.Form.TheVariants.{Key}
 use Rattle.tag_forms.specs.Forms.{IsTextIn, begins}
+use Rattle.tag_forms.specs.AllForms.{IsFormInAll}
 use Rattle.llrp_listing.specs.Calls.Splits.{Lacks, IsSplit}
 use Rattle.llrp_labels.specs.declared.labels.Labels.{Labels}
 use Rattle.llrp_labels.specs.declared.fault.LabelFault.{LabelFault}
@@ -29,15 +30,20 @@ pub record EndsInWord (schemes : Bool) (line front : List ℕ) (word : ℕ) : Ty
   pub below : word < 2 ^ 96
   pub is : IsTextAmong schemes word text
 
--- what follows the text of a word: with keys a tab (9) and the key of its EPC by its name, where it has one
-abbrev pub IsMark : Bool → ℕ → List ℕ → Type 0
-IsMark true word mark = ((key : List ℕ) × IsTextIn Key word key × (mark ≡ 9 ∷ key)) ⊎ (((key : List ℕ) → IsTextIn Key word key → ⊥) × (mark ≡ []))
-IsMark false word mark = mark ≡ []
+-- the key of a word's EPC by its name, in the set of all schemes or in that of the seven
+abbrev pub IsKeyAmong : Bool → ℕ → List ℕ → Type 0
+IsKeyAmong true word key = IsFormInAll Key word key
+IsKeyAmong false word key = IsTextIn Key word key
+
+-- what follows the text of a word: with keys a tab (9) and the key of its EPC, where it has one in the set of schemes
+abbrev pub IsMark : Bool → Bool → ℕ → List ℕ → Type 0
+IsMark schemes true word mark = ((key : List ℕ) × IsKeyAmong schemes word key × (mark ≡ 9 ∷ key)) ⊎ (((key : List ℕ) → IsKeyAmong schemes word key → ⊥) × (mark ≡ []))
+IsMark schemes false word mark = mark ≡ []
 
 -- the line with labels: where it ends in the text of a word, that word's text and mark; every other line as it is
 abbrev pub IsLabelled : Labels → List ℕ → List ℕ → Type 0
 IsLabelled labels line labelled =
-    ((front text mark : List ℕ) × (word : ℕ) × EndsInWord false line front word × IsTextAmong labels.schemes word text × IsMark labels.keys word mark × (labelled ≡ front ++ 32 ∷ (text ++ mark)))
+    ((front text mark : List ℕ) × (word : ℕ) × EndsInWord false line front word × IsTextAmong labels.schemes word text × IsMark labels.schemes labels.keys word mark × (labelled ≡ front ++ 32 ∷ (text ++ mark)))
     ⊎ (((front : List ℕ) (word : ℕ) → EndsInWord false line front word → ⊥) × (labelled ≡ line))
 
 -- ---- and back
@@ -48,9 +54,9 @@ IsBody keys line body (Some key) = (keys ≡ true) × IsSplit 9 line body key
 IsBody keys line body None = (keys ≡ true → Lacks 9 line) × (body ≡ line)
 
 -- the key after a tab, if there is one, is that of the word's EPC
-abbrev pub IsKeyIn : ℕ → Option (List ℕ) → Type 0
-IsKeyIn word (Some key) = IsTextIn Key word key
-IsKeyIn word None = Unit {0}
+abbrev pub IsKeyIn : Bool → ℕ → Option (List ℕ) → Type 0
+IsKeyIn schemes word (Some key) = IsKeyAmong schemes word key
+IsKeyIn schemes word None = Unit {0}
 
 -- a text that begins as a URI of an EPC
 abbrev pub IsUri : List ℕ → Type 0
@@ -68,13 +74,13 @@ HasUriFault line f = (front last : List ℕ) × HasLastWord line front last × I
 abbrev pub ReadsLine : Labels → List ℕ → List ℕ → Type 0
 ReadsLine labels line plain =
     (body : List ℕ) × (key : Option (List ℕ)) × IsBody labels.keys line body key
-    × (((front text : List ℕ) × (word : ℕ) × EndsInWord labels.schemes body front word × IsKeyIn word key × IsTextOf word text × (plain ≡ front ++ 32 ∷ text))
+    × (((front text : List ℕ) × (word : ℕ) × EndsInWord labels.schemes body front word × IsKeyIn labels.schemes word key × IsTextOf word text × (plain ≡ front ++ 32 ∷ text))
     ⊎ (((front : List ℕ) (word : ℕ) → EndsInWord labels.schemes body front word → ⊥) × (labels.schemes ≡ true → NoUri body) × (key ≡ None) × (plain ≡ body)))
 
 -- why a line with labels is refused: the key after its tab is not that of its EPC, or its last word is not a text in the set of all schemes
 abbrev pub RefusesLine : Labels → List ℕ → LabelFault → Type 0
 RefusesLine labels line fault.Key =
-    (body key : List ℕ) × IsBody labels.keys line body (Some key) × ((front : List ℕ) (word : ℕ) → EndsInWord labels.schemes body front word → IsTextIn Key word key → ⊥)
+    (body key : List ℕ) × IsBody labels.keys line body (Some key) × ((front : List ℕ) (word : ℕ) → EndsInWord labels.schemes body front word → IsKeyAmong labels.schemes word key → ⊥)
 RefusesLine labels line (fault.Epc f) = IsBody labels.keys line line None × (labels.schemes ≡ true) × HasUriFault line f
 
 -- a line as a listing has it: without a tab, and if its last word begins as a URI of an EPC, it is the text of a word

@@ -2,12 +2,10 @@
 -- Source: EPC Tag Data Standard 1.13, sections 7 and 12, for keys and texts; the lines are this project's own.
 use Rattle.std.specs.Prelude.{◌≡◌, ℕ, ◌^◌, ◌<◌, ◌⊎◌, Bool, true, false, List, [], ◌∷◌, ◌++◌, codes, Option, Some, None}
 use Rattle.tag_uri.specs.TagText.{IsTextOf}
-use Rattle.tag_forms.specs.declared.form.Form.TheVariants.{Key}
-use Rattle.tag_forms.specs.Forms.{IsTextIn}
 use Rattle.llrp_listing.specs.Calls.Splits.{Lacks, IsSplit}
 use Rattle.llrp_keys.specs.NamedKey.{IsNamedKey}
 use Rattle.llrp_labels.specs.declared.labels.Labels.{Labels}
-use Rattle.llrp_labels.specs.LabelledLines.{IsTextAmong}
+use Rattle.llrp_labels.specs.LabelledLines.{IsKeyAmong, IsTextAmong}
 use Rattle.llrp_labels.specs.LabelledTexts.{MakesText}
 
 -- the text is that of the word
@@ -39,21 +37,21 @@ abbrev pub key_members : (name number : List ℕ) → Option (List ℕ) → List
 key_members name number None = codes ",\"" ++ (name ++ (codes "\":\"" ++ (number ++ codes "\"")))
 key_members name number (Some serial) = codes ",\"" ++ (name ++ (codes "\":\"" ++ (number ++ (codes "\",\"serial\":\"" ++ (serial ++ codes "\"")))))
 
--- the parts of the key of a word's EPC
-abbrev pub IsKeyOfWord : ℕ → (name number : List ℕ) → Option (List ℕ) → Type 0
-IsKeyOfWord word name number serial = (key : List ℕ) × IsTextIn Key word key × IsNamedKey key name number serial
+-- the parts of the key of a word's EPC in a set of schemes
+abbrev pub IsKeyOfWord : Bool → ℕ → (name number : List ℕ) → Option (List ℕ) → Type 0
+IsKeyOfWord schemes word name number serial = (key : List ℕ) × IsKeyAmong schemes word key × IsNamedKey key name number serial
 
--- with keys the members of the key of a word's EPC, where it has one
-abbrev pub AreKeyMembers : Bool → ℕ → List ℕ → Type 0
-AreKeyMembers true word members =
-    ((name number : List ℕ) × (serial : Option (List ℕ)) × IsKeyOfWord word name number serial × (members ≡ key_members name number serial))
-    ⊎ (((name number : List ℕ) (serial : Option (List ℕ)) → IsKeyOfWord word name number serial → ⊥) × (members ≡ []))
-AreKeyMembers false word members = members ≡ []
+-- with keys the members of the key of a word's EPC, where it has one in the set of schemes
+abbrev pub AreKeyMembers : Bool → Bool → ℕ → List ℕ → Type 0
+AreKeyMembers schemes true word members =
+    ((name number : List ℕ) × (serial : Option (List ℕ)) × IsKeyOfWord schemes word name number serial × (members ≡ key_members name number serial))
+    ⊎ (((name number : List ℕ) (serial : Option (List ℕ)) → IsKeyOfWord schemes word name number serial → ⊥) × (members ≡ []))
+AreKeyMembers schemes false word members = members ≡ []
 
 -- an object with the text of a word as its EPC has that word's text with labels, and the members of its key at its end; every other line stays
 abbrev pub IsLabelledObject : Labels → List ℕ → List ℕ → Type 0
 IsLabelledObject labels line labelled =
-    ((text rest new members : List ℕ) × (word : ℕ) × IsObject line text rest × IsWordText text word × IsTextAmong labels.schemes word new × AreKeyMembers labels.keys word members
+    ((text rest new members : List ℕ) × (word : ℕ) × IsObject line text rest × IsWordText text word × IsTextAmong labels.schemes word new × AreKeyMembers labels.schemes labels.keys word members
     × (labelled ≡ object_start ++ (new ++ (34 ∷ (rest ++ (members ++ codes "}"))))))
     ⊎ (((text rest : List ℕ) (word : ℕ) → IsObject line text rest → IsWordText text word → ⊥) × (labelled ≡ line))
 

@@ -1,7 +1,7 @@
 //! Labels a line of a listing.
 
-ghost use Rattle.std.specs.Prelude.{◌≡◌, ◌++◌, List, OnOk, ℕ};
-ghost use Rattle.llrp_labels.specs.LabelledLines.{EndsInWord, IsLabelled, IsMark, IsTextAmong};
+ghost use Rattle.std.specs.Prelude.{◌≡◌, ◌++◌, List, MatchOption, OnOk, ℕ};
+ghost use Rattle.llrp_labels.specs.LabelledLines.{EndsInWord, IsKeyAmong, IsLabelled, IsMark, IsTextAmong};
 
 use crate::labels::Labels;
 use crate::last_word::last_word;
@@ -9,7 +9,7 @@ use crate::word::{push_ending, word_of};
 use arrayvec::ArrayString;
 use std::alloc::AllocError;
 use tag_bits::Word;
-use tag_forms::{Form, text_in};
+use tag_forms::{Form, form_in_all, text_in};
 use tag_schemes::text_in_all;
 use tag_uri::text_of_word;
 
@@ -24,15 +24,27 @@ pub(crate) fn text_among(schemes: bool, word: Word) -> ArrayString<64>
     }
 }
 
+/// The key of a word's EPC by its name, if it has one in the set of all schemes or in that of the seven.
+pub(crate) fn key_among(schemes: bool, word: Word) -> Option<ArrayString<96>>
+    ensures { MatchOption result ((key : List ℕ) → IsKeyAmong schemes word key → ⊥)
+        (λ key. IsKeyAmong schemes word key.bytes) }
+{
+    if schemes {
+        form_in_all(word, Form::Key)
+    } else {
+        text_in(word, Form::Key)
+    }
+}
+
 /// Appends a tab and the key of a word's EPC, if it is to have one and has one.
-fn push_mark(out: &mut Vec<u8>, keys: bool, word: Word) -> Result<(), AllocError>
-    ensures { OnOk result ((mark : List ℕ) × IsMark keys word mark
+fn push_mark(out: &mut Vec<u8>, labels: Labels, word: Word) -> Result<(), AllocError>
+    ensures { OnOk result ((mark : List ℕ) × IsMark labels.schemes labels.keys word mark
         × (out.new.items ≡ out.old.items ++ mark)) }
 {
-    if !keys {
+    if !labels.keys {
         return Ok(());
     }
-    let Some(key) = text_in(word, Form::Key) else {
+    let Some(key) = key_among(labels.schemes, word) else {
         return Ok(());
     };
     out.extend_from_slice(b"\t")?;
@@ -57,5 +69,5 @@ pub(crate) fn push_labelled(
         return Ok(());
     };
     push_ending(out, front, text_among(labels.schemes, word).as_str())?;
-    push_mark(out, labels.keys, word)
+    push_mark(out, labels, word)
 }

@@ -3,7 +3,7 @@
 /// The labels of a listing.
 #[derive(Clone, Copy, PartialEq, Eq, Debug)]
 pub struct Labels {
-    /// Whether the texts of words are those of the set of all schemes.
+    /// Whether the texts of words, and the keys of EPCs, are those of the set of all schemes.
     pub schemes: bool,
     /// Whether the keys of EPCs follow the texts of their words.
     pub keys: bool,

@@ -1,13 +1,12 @@
 //! Takes the labels off a line.
 
 ghost use Rattle.std.specs.Prelude.{◌≡◌, ◌++◌, ◌↔◌, ◌^◌, ◌<◌, true, IsTrue, List, MatchOption, None, OnOk, Some, ℕ};
-ghost use Rattle.llrp_labels.specs.LabelledLines.{HasLastWord, IsBody, IsTextAmong, IsUri};
+ghost use Rattle.llrp_labels.specs.LabelledLines.{HasLastWord, IsBody, IsKeyAmong, IsTextAmong, IsUri};
 ghost use Rattle.llrp_labels.specs.Private.Lines.{PlainOf};
-ghost use Rattle.tag_forms.specs.Forms.{IsTextIn};
 ghost use Rattle.tag_schemes.specs.AllTexts.{HasFaultInAll};
-ghost use Rattle.tag_forms.specs.declared.form.Form.TheVariants.{Key};
 
 use crate::fault::LabelFault;
+use crate::label::key_among;
 use crate::labels::Labels;
 use crate::last_word::last_word;
 use crate::word::{push_ending, word_of};
@@ -15,7 +14,6 @@ use llrp_listing::split_once;
 use std::alloc::AllocError;
 use std::str;
 use tag_bits::Word;
-use tag_forms::{Form, text_in};
 use tag_schemes::{SchemeFault, word_in_all};
 use tag_uri::text_of_word;
 
@@ -49,11 +47,11 @@ fn split_key(keys: bool, line: &[u8]) -> Option<(&[u8], &[u8])>
     split_once(line, b'\t')
 }
 
-/// Whether this is the key of a word's EPC, by its name.
-fn is_key(word: Word, key: &[u8]) -> bool
-    ensures { IsTrue result ↔ IsTextIn Key word key.now }
+/// Whether this is the key of a word's EPC, by its name, in the set of all schemes or in that of the seven.
+fn is_key(schemes: bool, word: Word, key: &[u8]) -> bool
+    ensures { IsTrue result ↔ IsKeyAmong schemes word key.now }
 {
-    match text_in(word, Form::Key) {
+    match key_among(schemes, word) {
         Some(text) => text.as_str().as_bytes() == key,
         None => false,
     }
@@ -91,7 +89,7 @@ fn push_keyed(out: &mut Vec<u8>, labels: Labels, body: &[u8], key: &[u8]) -> Res
     let Some(word) = word_of(labels.schemes, last) else {
         return Err(LineErr::Refused(LabelFault::Key));
     };
-    if !is_key(word, key) {
+    if !is_key(labels.schemes, word, key) {
         return Err(LineErr::Refused(LabelFault::Key));
     }
     push_ending(out, front, text_of_word(word).as_str())?;

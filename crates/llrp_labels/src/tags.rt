@@ -3,14 +3,13 @@
 ghost use Rattle.std.specs.Prelude.{◌≡◌, ◌++◌, IfOk, List, MatchOption, OnOk, codes, option_map, ℕ};
 ghost use Rattle.llrp_labels.specs.LabelledTags.{AreKeyMembers, AreLabelledTags, IsLabelledObject, IsLabelledTag, IsLabelledWords, IsObject, key_members, object_start};
 
-use crate::label::text_among;
+use crate::label::{key_among, text_among};
 use crate::labels::Labels;
 use crate::word::word_of;
 use llrp_keys::{NamedKey, named_key_of};
 use llrp_listing::split_once;
 use std::alloc::{AllocError, Global};
 use tag_bits::Word;
-use tag_forms::{Form, text_in};
 
 /// What comes before the text of the EPC of an object.
 fn object_start() -> &'static [u8]
@@ -80,14 +79,15 @@ fn push_key(out: &mut Vec<u8>, key: NamedKey<'_>) -> Result<(), AllocError>
 }
 
 /// Appends the members of the key of a word's EPC, if it is to have them and has one.
-fn push_members(out: &mut Vec<u8>, keys: bool, word: Word) -> Result<(), AllocError>
-    ensures { OnOk result ((members : List ℕ) × AreKeyMembers keys word members
+fn push_members(out: &mut Vec<u8>, labels: Labels, word: Word) -> Result<(), AllocError>
+    ensures { OnOk result ((members : List ℕ)
+        × AreKeyMembers labels.schemes labels.keys word members
         × (out.new.items ≡ out.old.items ++ members)) }
 {
-    if !keys {
+    if !labels.keys {
         return Ok(());
     }
-    let Some(text) = text_in(word, Form::Key) else {
+    let Some(text) = key_among(labels.schemes, word) else {
         return Ok(());
     };
     match named_key_of(text.as_str().as_bytes()) {
@@ -113,7 +113,7 @@ fn push_object(out: &mut Vec<u8>, labels: Labels, line: &[u8]) -> Result<(), All
     out.extend_from_slice(text_among(labels.schemes, word).as_str().as_bytes())?;
     out.extend_from_slice(b"\"")?;
     out.extend_from_slice(rest)?;
-    push_members(out, labels.keys, word)?;
+    push_members(out, labels, word)?;
     out.extend_from_slice(b"}")
 }
 

@@ -1,7 +1,6 @@
 use Rattle.std.proofs.Common.{◌≡◌, ◌++◌, ◌∷◌, List, ℕ, Some, true, subst, sym, inl, refl}
 use Rattle.tag_uri.specs.TagText.{IsTextOf}
-use Rattle.tag_forms.specs.Forms.{IsTextIn}
-use Rattle.tag_forms.specs.declared.form.Form.TheVariants.{Key}
+use Rattle.llrp_labels.specs.LabelledLines.{IsKeyAmong}
 use Rattle.llrp_labels.proofs.LineLemmas.{ends_in, ends_in_none, no_last, one_ending}
 use Rattle.llrp_labels.proofs.plain.push_keyed.Goals as goal
 
@@ -24,7 +23,7 @@ returns-then-not-is_key c = λ line b. (
   λ front word h k.
       let here = ends_in c.args.labels.schemes c.args.body.now c.in-Some.front.now c.in-Some.last.now c.in-Some-word_of.word c.in-Some.ensures c.in-Some-word_of.ensures.0 c.in-Some-word_of.ensures.1 in
       let same = one_ending c.args.labels.schemes c.args.body.now front c.in-Some.front.now word c.in-Some-word_of.word h here in
-      let yes : c.is_key.result ≡ true = c.is_key.ensures.1 (subst (λ (w : ℕ). IsTextIn Key w c.args.key.now) same.1 k) in
+      let yes : c.is_key.result ≡ true = c.is_key.ensures.1 (subst (λ (w : ℕ). IsKeyAmong c.args.labels.schemes w c.args.key.now) same.1 k) in
       let no = c.if-not-is_key.true in
       cc,
 )

@@ -8,15 +8,15 @@ use Rattle.llrp_labels.proofs.tags.push_members.Goals as goal
 
 pub returns-in_default : goal.returns-in_default
 returns-in_default c =
-    let on : c.args.keys ≡ true = search rules in
-    ([], subst (λ (b : Bool). AreKeyMembers b c.args.word []) (sym on) (inr ((λ name number serial h. c.in_default.ensures h.0 h.1), refl)), sym (append-nil c.args.out.now.items))
+    let on : c.args.labels.keys ≡ true = search rules in
+    ([], subst (λ (b : Bool). AreKeyMembers c.args.labels.schemes b c.args.word []) (sym on) (inr ((λ name number serial h. c.in_default.ensures h.0 h.1), refl)), sym (append-nil c.args.out.now.items))
 
 pub returns-in-Some-named_key_of : goal.returns-in-Some-named_key_of
 returns-in-Some-named_key_of c =
-    let on : c.args.keys ≡ true = search rules in
+    let on : c.args.labels.keys ≡ true = search rules in
     let key = c.in-Some-named_key_of.key in
     let serial = option_map (λ (s : Bor (List ℕ)). s.now) key.serial in
     let members = key_members key.name.now key.number.now serial in
     let named = rw (c.as_bytes.ensures.value, c.as_str.ensures.value) at c.in-Some-named_key_of.ensures in
-    let are : AreKeyMembers c.args.keys c.args.word members = subst (λ (b : Bool). AreKeyMembers b c.args.word members) (sym on) (inl (key.name.now, key.number.now, serial, (c.in-Some.text.bytes, c.in-Some.ensures, named), refl)) in
-    IfOk-weaker c.push_key.result _ (λ done. (x : List ℕ) × AreKeyMembers c.args.keys c.args.word x × (c.push_key.new.out.items ≡ c.args.out.now.items ++ x)) (λ done h. (members, are, h)) c.push_key.ensures
+    let are : AreKeyMembers c.args.labels.schemes c.args.labels.keys c.args.word members = subst (λ (b : Bool). AreKeyMembers c.args.labels.schemes b c.args.word members) (sym on) (inl (key.name.now, key.number.now, serial, (c.in-Some.text.bytes, c.in-Some.ensures, named), refl)) in
+    IfOk-weaker c.push_key.result _ (λ done. (x : List ℕ) × AreKeyMembers c.args.labels.schemes c.args.labels.keys c.args.word x × (c.push_key.new.out.items ≡ c.args.out.now.items ++ x)) (λ done h. (members, are, h)) c.push_key.ensures
