@@ -1,4 +1,5 @@
 mod FrameLemmas
+mod KeyLemmas
 mod PutLemmas
 mod ReportLemmas
 mod StatusLemmas
