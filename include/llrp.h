@@ -60,7 +60,7 @@ enum llrp_status {
     LLRP_ROOM = 3,   /* the room is too small */
     LLRP_LENGTH = 4, /* an argument does not have the length that the call needs */
     LLRP_UTF8 = 5,   /* the text is not UTF-8 */
-    LLRP_LONG = 6,   /* the text has more than 96 octets; only llrp_word_of_key, llrp_word_of_key_in_all and llrp_word_in_all return it */
+    LLRP_LONG = 6,   /* the text has more than 96 octets, or a key or pure identity URI of a further scheme more than 72; only llrp_word_of_key, llrp_word_of_key_in_all and llrp_word_in_all return it */
     LLRP_MEMORY = 7, /* memory ran out */
     LLRP_MORE = 8,   /* the stream has less than a frame; only llrp_next and its like return it */
 
@@ -197,7 +197,7 @@ uint32_t llrp_forms(const uint8_t *word, size_t word_length, uint8_t *lines, siz
 uint32_t llrp_word_of_key(const uint8_t *text, size_t text_length, uint32_t filter, uint32_t prefix_digits, uint8_t *word, size_t word_length, uint32_t *right);
 
 /* The same as llrp_forms in the set of all schemes, as `llrp epc --forms --schemes all` prints the lines: a word of GIAI-96, GSRNP-96, SGCN-96
- * or CPI-96 has all six forms, and a word of USDoD-96 has tag and hex.
+ * or CPI-96 has all six forms, and a word of USDoD-96 has tag, pure and hex.
  *
  * word         the twelve octets of the word, the first the most significant
  * word_length  LLRP_WORD_OCTETS
@@ -209,8 +209,8 @@ uint32_t llrp_word_of_key(const uint8_t *text, size_t text_length, uint32_t filt
  * room: nothing is written to lines, and *written is the room that they need. LLRP_MEMORY: nothing is written, *written is 0. */
 uint32_t llrp_forms_in_all(const uint8_t *word, size_t word_length, uint8_t *lines, size_t lines_room, size_t *written);
 
-/* The same as llrp_word_of_key in the set of all schemes: the text may also be a key or a pure identity URI of GIAI-96, GSRNP-96, SGCN-96 or
- * CPI-96, or the tag URI of a word that has one in this set, but not its raw URI.
+/* The same as llrp_word_of_key in the set of all schemes: the text may also be a key of GIAI-96, GSRNP-96, SGCN-96 or CPI-96, or a pure
+ * identity URI or a tag URI of one of these or of USDoD-96; the raw URI of a word that has a tag URI in this set is refused.
  *
  * text           the text
  * text_length    how many octets it has

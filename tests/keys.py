@@ -20,7 +20,7 @@ from parts.repository import program_given
 EACH = 300
 # How many of them are answered as objects of JSON, for each length of the company prefix.
 OBJECTS = 3
-LEAST = 6 * EACH * 3 + 6 * 7 * (OBJECTS * 2 + 4) + 4 * 7 * 6 + EACH * 7
+LEAST = 6 * EACH * 3 + 6 * 7 * (OBJECTS * 2 + 4) + 4 * 7 * 6 + 2 * 7 * 2 + EACH * 7
 # The names of the keys of those schemes.
 NAMES = {"sgtin": "gtin", "sscc": "sscc", "sgln": "gln", "grai": "grai", "gdti": "gdti", "gsrn": "gsrn"}
 # The digits of company prefix and reference together, the digits of the reference that come first in the key, the application identifier and
@@ -120,20 +120,30 @@ def listings(program, scheme, tags, told):
     yield f"a wrong key in a listing of {scheme}: {done.stderr}", (done.stdout, done.stderr, done.returncode) == (b"", b"llrp: line 3: Epc Key\n", 1)
 
 
-def inventories(program, scheme, tags, told):
-    """Yields whether `inventory --json --keys` prints the keys as the last members of the tags that a simulated reader sees."""
-    script = "".join(f"3 {at} seen 1 -60 {tag}\n" for at, (tag, _, _) in enumerate(tags))
+def inventory(program, texts, *options):
+    """Returns the members of each object that `inventory --json --keys` prints of the tags with these texts that a simulated reader sees."""
+    script = "".join(f"3 {at} seen 1 -60 {text}\n" for at, text in enumerate(texts))
     with subprocess.Popen([program, "sim", "0", "--ready"], stdin=subprocess.PIPE, stderr=subprocess.PIPE, text=True) as reader:
         reader.stdin.write(script)
         reader.stdin.close()
         port = reader.stderr.readline().rpartition(":")[2].strip()
-        lines = run(program, "inventory", "127.0.0.1", port, "--json", "--keys", input=b"").stdout.splitlines()
-    seen = [list(json.loads(line).items()) for line in lines]
+        lines = run(program, "inventory", "127.0.0.1", port, "--json", "--keys", *options, input=b"").stdout.splitlines()
+    return [list(json.loads(line).items()) for line in lines]
+
+
+def inventories(program, scheme, tags, told):
+    """Yields whether `inventory --json --keys` prints the keys as the last members of the tags that a simulated reader sees."""
     wanted = [
         [("epc", tag), ("antenna", 1), ("rssi", -60), (NAMES[scheme], front + digit), *([("serial", number)] if number else [])]
         for (tag, front, number), (digit, _) in zip(tags, told)
     ]
-    yield f"the keys of an inventory of {scheme}", seen == [*wanted, [("report", len(tags))], [("tags", len(tags)), ("reports", 1)]]
+    seen = inventory(program, [tag for tag, _, _ in tags])
+    yield f"the keys of an inventory of {scheme}", seen == [*wanted, *totals(tags)]
+
+
+def totals(tags):
+    """Returns the members of the last objects of an inventory with one report of these tags."""
+    return [[("report", len(tags))], [("tags", len(tags)), ("reports", 1)]]
 
 
 def further_tags(scheme, company_digits):
@@ -149,16 +159,21 @@ def further_tags(scheme, company_digits):
 
 
 def further_keys(scheme, tags):
-    """Returns the name, the number and the serial number of the key of each tag URI of a further scheme; the judge gives the check digits, and
-    has to find the number in the element string of a GIAI and of a GSRN."""
+    """Returns the name, the number and the serial number of the key of each tag URI of a further scheme; the judge gives the check digits."""
     name, _, is_checked = FURTHER[scheme]
     told = judged([(front, "") for _, front, _ in tags])
-    keys = [(name, front + (digit if is_checked else ""), number) for (_, front, number), (digit, _) in zip(tags, told)]
+    return [(name, front + (digit if is_checked else ""), number) for (_, front, number), (digit, _) in zip(tags, told)]
+
+
+def further_elements(program, scheme, tags, keys):
+    """Yields whether the element strings of GIAI-96 and of GSRNP-96 are those of the keys, and whether the judge finds the keys in them."""
     identifier = {"giai": "8004", "gsrnp": "8017"}.get(scheme)
     if identifier:
-        values = judged([("0", f"({identifier}){number}") for _, number, _ in keys])
-        assert all(found == {identifier: number} for (_, number, _), (_, found) in zip(keys, values))
-    return keys
+        numbers = [number for _, number, _ in keys]
+        elements = answers(program, [tag for tag, _, _ in tags], "--to", "element", *ALL_SCHEMES)
+        yield f"the element strings of {scheme}", elements == [f"({identifier}){number}" for number in numbers]
+        values = [found for _, found in judged([("0", element) for element in elements])]
+        yield f"the values of the element strings of {scheme}", values == [{identifier: number} for number in numbers]
 
 
 def further_listings(program, scheme, tags, keys):
@@ -183,19 +198,14 @@ def further_inventories(program, scheme, tags, keys):
     """Yields whether `inventory --json --keys --schemes all` prints the keys of a further scheme as the last members of the tags that a simulated
     reader sees, and without `--schemes all` none."""
     words = answers(program, [tag for tag, _, _ in tags], "--to", "hex", *ALL_SCHEMES)
-    script = "".join(f"3 {at} seen 1 -60 urn:epc:raw:96.x{word}\n" for at, word in enumerate(words))
-    for options in ((), ALL_SCHEMES):
-        with subprocess.Popen([program, "sim", "0", "--ready"], stdin=subprocess.PIPE, stderr=subprocess.PIPE, text=True) as reader:
-            reader.stdin.write(script)
-            reader.stdin.close()
-            port = reader.stderr.readline().rpartition(":")[2].strip()
-            lines = run(program, "inventory", "127.0.0.1", port, "--json", "--keys", *options, input=b"").stdout.splitlines()
-        seen = [list(json.loads(line).items()) for line in lines]
-        wanted = [[("epc", f"urn:epc:raw:96.x{word}"), ("antenna", 1), ("rssi", -60)] for word in words]
-        if options:
-            members = [[(name, number), *([("serial", serial)] if serial else [])] for name, number, serial in keys]
-            wanted = [[("epc", tag), ("antenna", 1), ("rssi", -60), *key] for (tag, _, _), key in zip(tags, members)]
-        yield f"an inventory of {scheme} with {options}", seen == [*wanted, [("report", len(tags))], [("tags", len(tags)), ("reports", 1)]]
+    texts = [f"urn:epc:raw:96.x{word}" for word in words]
+    wanted = [
+        [("epc", tag), ("antenna", 1), ("rssi", -60), (name, number), *([("serial", serial)] if serial else [])]
+        for (tag, _, _), (name, number, serial) in zip(tags, keys)
+    ]
+    yield f"the keys of an inventory of {scheme}", inventory(program, texts, *ALL_SCHEMES) == [*wanted, *totals(tags)]
+    wanted = [[("epc", text), ("antenna", 1), ("rssi", -60)] for text in texts]
+    yield f"an inventory of {scheme} among the seven schemes", inventory(program, texts) == [*wanted, *totals(tags)]
 
 
 def further(program):
@@ -204,6 +214,7 @@ def further(program):
         for company_digits in range(6, 13):
             tags = list(further_tags(scheme, company_digits))
             keys = further_keys(scheme, tags)
+            yield from further_elements(program, scheme, tags, keys)
             yield from further_listings(program, scheme, tags, keys)
             yield from further_inventories(program, scheme, tags, keys)
 

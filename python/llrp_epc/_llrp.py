@@ -94,7 +94,7 @@ class Llrp:
         """Returns each form of a tag's word by its name, as `llrp epc --forms` prints them: tag and hex, and where the word has them pure,
         element, link and key.
 
-        With all_schemes=True words of GIAI-96, GSRNP-96, SGCN-96 and CPI-96 have these forms too, and those of USDoD-96 tag URIs."""
+        With all_schemes=True words of GIAI-96, GSRNP-96, SGCN-96 and CPI-96 have these forms too, and those of USDoD-96 tag and pure."""
         function = self.library.llrp_forms_in_all if all_schemes else self.library.llrp_forms
         written = ctypes.c_size_t()
         status, lines = _library.filled(function, word, _library.FORMS_ROOM, written, written)

@@ -163,6 +163,13 @@ FURTHER = [
         ],
     ),
 ]
+# Texts of further schemes, and the rules that refuse them.
+REFUSED_IN_ALL = [
+    ("(255)401234567890204711", "Check 1"),
+    ("(8010)061414198765", "Serial"),
+    ("(8004)0614141", "Length"),
+    ("urn:epc:id:usdod:2I194.1", "Code"),
+]
 
 
 def test_forms(llrp: Llrp) -> None:
@@ -190,9 +197,11 @@ def test_forms_in_all_schemes(llrp: Llrp) -> None:
     assert llrp.forms(WORD, all_schemes=True) == WORD_FORMS
     for text in WORD_FORMS.values():
         assert llrp.word(text, filter=3, prefix_digits=7, all_schemes=True) == WORD
-    supplier = {"tag": "urn:epc:tag:usdod-96:3.2S194.12345678901", "hex": "2F32032533139342DFDC1C35"}
-    assert llrp.forms(bytes.fromhex(supplier["hex"]), all_schemes=True) == supplier
-    for text, said in [("(255)401234567890204711", "Check 1"), ("(8010)061414198765", "Serial"), ("(8004)0614141", "Length")]:
+    word, pure = "2F32032533139342DFDC1C35", "urn:epc:id:usdod:2S194.12345678901"
+    supplier = {"tag": "urn:epc:tag:usdod-96:3.2S194.12345678901", "pure": pure, "hex": word}
+    assert llrp.forms(bytes.fromhex(word), all_schemes=True) == supplier
+    assert llrp.word(pure, filter=3, all_schemes=True) == bytes.fromhex(word)
+    for text, said in REFUSED_IN_ALL:
         with pytest.raises(Refused) as caught:
             llrp.word(text, filter=3, prefix_digits=7, all_schemes=True)
         assert str(caught.value) == said

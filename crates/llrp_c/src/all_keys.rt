@@ -4,7 +4,7 @@ ghost use Rattle.std.specs.Prelude.{◌≡◌, ◌≢◌, ◌<◌, ◌≤◌, If
 ghost use Rattle.std.specs.Int.{IsInRange};
 ghost use Rattle.std.specs.Str.{IsUtf8};
 ghost use Rattle.llrp_c.specs.declared.status.Status.TheVariants.{Length, Uri, Utf8};
-ghost use Rattle.llrp_c.specs.AllKeys.{ReadsInFormInAll, WritesFormsInAll, right_in_all, status_in_all};
+ghost use Rattle.llrp_c.specs.AllKeys.{ReadsInFormInAll, WritesFormsInAll, right_in_all, status_in_all, supplier_status};
 ghost use Rattle.llrp_c.specs.Keys.{is_count, known};
 ghost use Rattle.llrp_c.specs.Status.{code_of};
 ghost use Rattle.tag_uri.specs.declared.fault.UriFault.TheVariants.{Filter, Digits};
@@ -15,6 +15,8 @@ use crate::status::Status;
 use crate::tags::{WORD_OCTETS, word_of};
 use std::alloc::Global;
 use tag_forms::{AllFault, form_of, push_forms_in_all, read_in_all};
+use tag_scheme_keys::SupplierFault;
+use tag_uri::UriFault;
 
 /// Writes a line for each form of a tag's word in the set of all schemes to `lines`, as `epc --forms --schemes all`
 /// prints them, and their length to `written`.
@@ -41,6 +43,17 @@ pub extern "C" fn llrp_forms_in_all(
     put_lines(text.as_slice(), lines, written)
 }
 
+/// The status of a rule that refuses a pure identity URI of USDoD-96.
+fn supplier_status(fault: SupplierFault) -> Status
+    ensures { result ≡ supplier_status fault }
+{
+    match fault {
+        SupplierFault::Long => Status::Long,
+        SupplierFault::Start => Status::Uri(UriFault::Start),
+        SupplierFault::Tag(fault) => fault_status(fault),
+    }
+}
+
 /// The status of a rule that refuses a text in a form.
 fn status_in_all(fault: AllFault) -> Status
     ensures { result ≡ status_in_all fault }
@@ -48,6 +61,7 @@ fn status_in_all(fault: AllFault) -> Status
     match fault {
         AllFault::Tag(fault) => fault_status(fault),
         AllFault::Form(fault) => form_status(fault),
+        AllFault::Supplier(fault) => supplier_status(fault),
     }
 }
 
@@ -56,8 +70,8 @@ fn right_in_all(fault: AllFault) -> u32
     ensures { result ≡ right_in_all fault }
 {
     match fault {
-        AllFault::Tag(_) => 0,
         AllFault::Form(fault) => right_of(fault),
+        _ => 0,
     }
 }
 
