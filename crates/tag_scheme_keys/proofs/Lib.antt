@@ -7,3 +7,4 @@ pub mod PartPieces
 pub mod KeyLaws
 pub mod KeyFaultLaws
 pub mod OneKeyFault
+pub mod SupplierIds

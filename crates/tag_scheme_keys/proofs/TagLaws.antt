@@ -160,7 +160,7 @@ module _ (text front rest : List ℕ) (e : text ≡ front ++ 46 ∷ rest) where
 
 -- ---- texts that are put together
 
-digit_of : (f : ℕ) → f < 8 → padded 1 f ≡ (48 + f) ∷ []
+pub digit_of : (f : ℕ) → f < 8 → padded 1 f ≡ (48 + f) ∷ []
 unfolding padded
 digit_of f h = let d : 48 + f / 10 ^ 0 % 10 ≡ 48 + f = omega arith in rw d refl
 

@@ -1,3 +1,4 @@
 pub mod PureIdentity
 pub mod KeyText
 pub mod KeyFaults
+pub mod SupplierIdentity

@@ -1,10 +1,13 @@
 //! Worked examples: pure identities and keys of the EPC Tag Data Standard 1.13, check digits of the GS1 General Specifications, and texts
 //! that are refused.
 
-use crate::{parse_id_in, parse_key_in, print_id_in, print_key_in};
+use crate::{
+    SupplierFault, parse_id_in, parse_key_in, parse_supplier_id, print_id_in, print_key_in,
+    print_supplier_id,
+};
 use std::test::Fail;
 use tag_keys::{KeyFault, Spelling};
-use tag_schemes::numbers_of;
+use tag_schemes::{SchemeFault, Supplier};
 use tag_uri::UriFault;
 
 /// Pure identity URI, element string, Digital Link URI and key by its name of EPCs whose company prefix has seven digits.
@@ -83,6 +86,41 @@ const REFUSED: [(&str, Spelling, KeyFault); 12] = [
     ),
 ];
 
+/// Pure identity URIs of USDoD-96: that of the EPC Tag Data Standard 1.13, and one with a code of six characters.
+const SUPPLIERS: [(&str, [u8; 6], u64); 2] = [
+    (
+        "urn:epc:id:usdod:2S194.12345678901",
+        *b" 2S194",
+        12345678901,
+    ),
+    ("urn:epc:id:usdod:W25G1Q.0", *b"W25G1Q", 0),
+];
+
+/// Texts of such URIs that are refused.
+const REFUSED_SUPPLIERS: [(&str, SupplierFault); 6] = [
+    ("urn:epc:tag:usdod-96:3.2S194.1", SupplierFault::Start),
+    (
+        "urn:epc:id:usdod:2S194",
+        SupplierFault::Tag(SchemeFault::Tag(UriFault::Parts)),
+    ),
+    (
+        "urn:epc:id:usdod:2S194.1x",
+        SupplierFault::Tag(SchemeFault::Tag(UriFault::Digit)),
+    ),
+    (
+        "urn:epc:id:usdod:2S194.01",
+        SupplierFault::Tag(SchemeFault::Tag(UriFault::LeadingZero)),
+    ),
+    (
+        "urn:epc:id:usdod:2I194.1",
+        SupplierFault::Tag(SchemeFault::Code),
+    ),
+    (
+        "urn:epc:id:usdod:2S194.68719476736",
+        SupplierFault::Tag(SchemeFault::Tag(UriFault::Range)),
+    ),
+];
+
 #[test]
 fn examples_there_and_back(rt: HostRuntime) -> Result<(), Fail> {
     for [id, element, link, named] in EXAMPLES {
@@ -118,5 +156,28 @@ fn refused_identities(rt: HostRuntime) -> Result<(), Fail> {
     assert!(rt;
         parse_id_in("urn:epc:id:gsrnp:0614141.123456789", 3) == Err(KeyFault::Tag(UriFault::Digits))
     );
+    Ok(())
+}
+
+#[test]
+fn suppliers_there_and_back(rt: HostRuntime) -> Result<(), Fail> {
+    for (id, code, serial) in SUPPLIERS {
+        let epc = parse_supplier_id(id, 15).expect(&rt, "an EPC");
+        let numbers = Supplier {
+            filter: 15,
+            code,
+            serial,
+        };
+        assert!(rt; epc == numbers);
+        assert!(rt; print_supplier_id(epc).as_str() == id);
+    }
+    Ok(())
+}
+
+#[test]
+fn refused_suppliers(rt: HostRuntime) -> Result<(), Fail> {
+    for (text, fault) in REFUSED_SUPPLIERS {
+        assert!(rt; parse_supplier_id(text, 3) == Err(fault));
+    }
     Ok(())
 }

@@ -8,6 +8,10 @@ ghost use Rattle.tag_scheme_keys.specs.PureIdentity.{id_uri_in};
 ghost use Rattle.tag_keys.specs.declared.spelling.Spelling.{Spelling};
 ghost use Rattle.tag_scheme_keys.specs.KeyText.{key_in};
 ghost use Rattle.tag_scheme_keys.specs.KeyFaults.{HasIdFaultIn, HasKeyFaultIn};
+ghost use Rattle.tag_schemes.specs.declared.supplier.Supplier.{Supplier};
+ghost use Rattle.tag_schemes.specs.Suppliers.{IsSupplier};
+ghost use Rattle.tag_scheme_keys.specs.declared.supplier_fault.SupplierFault.{SupplierFault};
+ghost use Rattle.tag_scheme_keys.specs.SupplierIdentity.{supplier_id_uri, HasSupplierIdFault};
 
 /// Two lawful EPCs with the same filter value have different pure identity URIs, no rule refuses one of
 /// these, and at most one rule is the first to refuse a text.
@@ -30,4 +34,15 @@ pub fn one_key_text_in()
         → HasKeyFaultIn s filter digits (key_in s epc) fault → ⊥ }
     ensures one_fault { (s : Spelling) (filter digits : ℕ) (text : List ℕ) (f g : KeyFault)
         → HasKeyFaultIn s filter digits text f → HasKeyFaultIn s filter digits text g → f ≡ g }
+{}
+
+/// Two USDoD-96 with the same filter value have different pure identity URIs, no rule refuses one of these, and at most one
+/// rule is the first to refuse a text.
+pub fn one_supplier_id()
+    ensures one { (d e : Supplier) → IsSupplier d → IsSupplier e → d.filter ≡ e.filter
+        → supplier_id_uri d ≡ supplier_id_uri e → d ≡ e }
+    ensures no_fault { (epc : Supplier) (fault : SupplierFault) → IsSupplier epc
+        → HasSupplierIdFault (supplier_id_uri epc) fault → ⊥ }
+    ensures one_fault { (text : List ℕ) (f g : SupplierFault) → HasSupplierIdFault text f
+        → HasSupplierIdFault text g → f ≡ g }
 {}
