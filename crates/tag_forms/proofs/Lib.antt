@@ -1,5 +1,6 @@
 pub mod HexLemmas
 pub mod FormLemmas
+pub mod Beginnings
 pub mod AllLemmas
 pub mod ListLemmas
 pub mod PrefixLemmas

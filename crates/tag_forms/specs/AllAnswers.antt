@@ -2,7 +2,7 @@
 use Rattle.std.specs.Prelude.{◌≡◌, ℕ, ◌^◌, ◌<◌, ◌⊎◌, Bool, true, false, List, [], ◌∷◌, ◌++◌, codes, decimal, Option}
 use Rattle.tag_schemes.specs.declared.fault.PartFault.{PartFault}
 use Rattle.tag_schemes.specs.Calls.Faults.{part_reason_name, scheme_fault_name}
-use Rattle.tag_schemes.specs.Suppliers.{IsFurtherWord}
+use Rattle.tag_scheme_keys.specs.SupplierIdentity.{supplier_fault_name}
 use Rattle.tag_schemes.specs.WordFaults.{HasWordFaultInAll, IsLawfulInAll}
 use Rattle.tag_forms.specs.declared.form.Form.{Form}
 use Rattle.tag_forms.specs.declared.form.Form.TheVariants.{Tag, Pure, Element, Link, Hex, Key}
@@ -21,19 +21,20 @@ abbrev pub IsRemarkInAll : Form → ℕ → List ℕ → Type 0
 IsRemarkInAll Tag word text = (IsLawfulInAll word × (text ≡ [])) ⊎ ((fault : PartFault) × HasWordFaultInAll word fault × (text ≡ remark_in_all fault))
 IsRemarkInAll form word text = text ≡ []
 
--- what is said of a word without a text in a form: that of a further scheme has no key, also where a pure identity is asked for
-abbrev pub IsLack : Form → ℕ → List ℕ → Type 0
-IsLack Pure word name = (IsFurtherWord word × (name ≡ codes "NoKey")) ⊎ ((IsFurtherWord word → ⊥) × (name ≡ codes "NoEpc"))
-IsLack form word name = name ≡ codes "NoKey"
+-- what is said of a word without a text in a form
+abbrev pub lack_in_all : Form → List ℕ
+lack_in_all Pure = codes "NoEpc"
+lack_in_all form = codes "NoKey"
 
 -- the answer for a word: its text in a form and a remark, or that it has none, and whether that is so
 abbrev pub IsWordAnswerInAll : Form → ℕ → Bool → List ℕ → Type 0
 IsWordAnswerInAll to word false answer = (text more : List ℕ) × IsFormInAll to word text × IsRemarkInAll to word more × (answer ≡ text ++ more)
-IsWordAnswerInAll to word true answer = ((text : List ℕ) → IsFormInAll to word text → ⊥) × (name : List ℕ) × IsLack to word name × (answer ≡ codes "! " ++ name)
+IsWordAnswerInAll to word true answer = ((text : List ℕ) → IsFormInAll to word text → ⊥) × (answer ≡ codes "! " ++ lack_in_all to)
 
 -- what is said of a text that a rule refuses
 abbrev pub refusal_in_all : AllFault → List ℕ
 refusal_in_all (all.Tag f) = codes "! " ++ scheme_fault_name f
+refusal_in_all (all.Supplier f) = codes "! " ++ supplier_fault_name f
 refusal_in_all (all.Form f) = refusal f
 
 -- the answer to a text that is read in the form that it begins as, and whether the text is refused

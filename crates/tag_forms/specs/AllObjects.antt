@@ -2,12 +2,13 @@
 use Rattle.std.specs.Prelude.{◌≡◌, ℕ, ◌^◌, ◌<◌, ◌⊎◌, Bool, true, false, List, [], ◌++◌, codes, decimal, Option}
 use Rattle.tag_schemes.specs.declared.fault.PartFault.{PartFault}
 use Rattle.tag_schemes.specs.Calls.Faults.{part_reason_name, scheme_fault_name}
+use Rattle.tag_scheme_keys.specs.SupplierIdentity.{supplier_fault_name}
 use Rattle.tag_schemes.specs.WordFaults.{HasWordFaultInAll, IsLawfulInAll}
 use Rattle.tag_forms.specs.declared.form.Form.{Form}
 use Rattle.tag_forms.specs.declared.form.Form.TheVariants.{Tag, Pure, Element, Link, Hex, Key}
 use Rattle.tag_forms.specs.declared.all_forms.AllFault.{AllFault}
 use Rattle.tag_forms.specs.declared.all_forms.AllFault.TheVariants as all
-use Rattle.tag_forms.specs.AllAnswers.{IsLack}
+use Rattle.tag_forms.specs.AllAnswers.{lack_in_all}
 use Rattle.tag_forms.specs.AllForms.{IsFormInAll, ReadsInAll, RefusesInAll}
 use Rattle.tag_forms.specs.Forms.{form_at, form_name}
 use Rattle.tag_forms.specs.Objects.{refusal_object, refused_as}
@@ -47,6 +48,7 @@ pub record IsObjectInAll (word : ℕ) (object : List ℕ) : Type 0 where
 -- the object of a text that a rule refuses
 abbrev pub refused_in_all : AllFault → List ℕ
 refused_in_all (all.Tag f) = refused_as (scheme_fault_name f)
+refused_in_all (all.Supplier f) = refused_as (supplier_fault_name f)
 refused_in_all (all.Form f) = refusal_object f
 
 -- the answer to a text that is read in the form that it begins as, and whether the text is refused
@@ -64,7 +66,7 @@ IsReasonInForm form word members = members ≡ []
 abbrev pub IsMemberObjectInAll : Form → ℕ → Bool → List ℕ → Type 0
 IsMemberObjectInAll to word false object =
     (text member why : List ℕ) × IsFormInAll to word text × IsMemberInAll (codes "{\"") to word member × IsReasonInForm to word why × (object ≡ member ++ (why ++ codes "}"))
-IsMemberObjectInAll to word true object = ((text : List ℕ) → IsFormInAll to word text → ⊥) × (name : List ℕ) × IsLack to word name × (object ≡ refused_as name)
+IsMemberObjectInAll to word true object = ((text : List ℕ) → IsFormInAll to word text → ⊥) × (object ≡ refused_as (lack_in_all to))
 
 -- the answer to a text as an object of one form
 abbrev pub IsMemberAnswerInAll : Form → ℕ → Option ℕ → List ℕ → Bool → List ℕ → Type 0

@@ -4,6 +4,8 @@ use Rattle.std.specs.Int.{IsInRange}
 use Rattle.tag_keys.specs.declared.spelling.Spelling.{Spelling}
 use Rattle.tag_keys.specs.declared.spelling.Spelling.TheVariants as spelling
 use Rattle.tag_keys.specs.KeyFaults.{HasFromCompany}
+use Rattle.tag_schemes.specs.declared.scheme.Scheme.{Scheme}
+use Rattle.tag_scheme_keys.specs.KeyFaults.{BeginsKeyIn}
 use Rattle.tag_forms.specs.declared.company.Company.{Company}
 use Rattle.tag_forms.specs.declared.company.Company.TheVariants.{Digits, Table}
 use Rattle.tag_forms.specs.declared.form.Form.{Form}
@@ -21,9 +23,13 @@ spelling_at Tag = None
 spelling_at Pure = None
 spelling_at Hex = None
 
--- the text begins as a key, which has these digits from its company prefix on
+-- a key, which has these digits from its company prefix on, or begins as one of a further scheme, which has this from there on
+abbrev pub IsFromCompany : Spelling → List ℕ → List ℕ → Type 0
+IsFromCompany s text digits = HasFromCompany s text digits ⊎ ((scheme : Scheme) × BeginsKeyIn s text scheme digits)
+
+-- the text is a key in the form that it begins as
 abbrev pub HasCompany : List ℕ → List ℕ → Type 0
-HasCompany text digits = (s : Spelling) × (spelling_at (form_at text) ≡ Some s) × HasFromCompany s text digits
+HasCompany text digits = (s : Spelling) × (spelling_at (form_at text) ≡ Some s) × IsFromCompany s text digits
 
 -- a number of digits that the company prefix of an EPC may have (EPC Tag Data Standard 1.13, section 14: 6 to 12), or none
 abbrev pub within : Option ℕ → Option ℕ

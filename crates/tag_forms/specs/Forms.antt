@@ -47,7 +47,7 @@ form_at text =
     else if begins text (codes "urn:") then Tag
     else if begins text (codes "(") then Element
     else if begins text (codes "http") then Link
-    else if begins text (codes "g") || begins text (codes "s") then Key
+    else if (begins text (codes "g") || begins text (codes "s")) || begins text (codes "cpi") then Key
     else Hex
 
 -- the text is that of the key of the word's EPC, which has this filter value and as many digits of the company prefix as are known

@@ -3,6 +3,8 @@ pub mod Forms
 pub mod Faults
 pub mod Answers
 pub mod Objects
+pub mod FurtherForms
+pub mod FurtherFaults
 pub mod AllForms
 pub mod AllAnswers
 pub mod AllObjects

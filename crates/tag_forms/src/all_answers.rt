@@ -2,7 +2,7 @@
 
 ghost use Rattle.std.specs.Prelude.{◌≡◌, ◌++◌, ◌<◌, List, ℕ, IfOk, IfSome, OnOk, codes};
 ghost use Rattle.std.specs.Int.{IsInRange};
-ghost use Rattle.tag_forms.specs.AllAnswers.{AreFormLinesInAll, IsAnswerInAll, IsFormLineInAll, IsLack, IsRemarkInAll, IsWordAnswerInAll, refusal_in_all, remark_in_all};
+ghost use Rattle.tag_forms.specs.AllAnswers.{AreFormLinesInAll, IsAnswerInAll, IsFormLineInAll, IsRemarkInAll, IsWordAnswerInAll, lack_in_all, refusal_in_all, remark_in_all};
 
 use crate::all_forms::{AllFault, form_in_all, read_in_all};
 use crate::answer::push_refusal;
@@ -10,14 +10,14 @@ use crate::form::{Form, form_of};
 use itoa::Buffer;
 use std::alloc::AllocError;
 use tag_bits::Word;
-use tag_schemes::{PartFault, fault_in_all, is_further};
+use tag_schemes::{PartFault, fault_in_all};
 
 /// What is said of a word without a text in a form.
-pub(crate) fn lack_of(word: Word, to: Form) -> &'static str
-    ensures { IsLack to word result.now }
+pub(crate) fn lack_of(to: Form) -> &'static str
+    ensures { result.now ≡ lack_in_all to }
 {
     match to {
-        Form::Pure => { if is_further(word) { "NoKey" } else { "NoEpc" } }
+        Form::Pure => "NoEpc",
         _ => "NoKey",
     }
 }
@@ -49,12 +49,11 @@ fn push_remark(answers: &mut Vec<u8>, word: Word, to: Form) -> Result<(), AllocE
 }
 
 /// Appends why a word has no text in a form.
-fn push_lack(answers: &mut Vec<u8>, word: Word, to: Form) -> Result<(), AllocError>
-    ensures { OnOk result ((name : List ℕ) × IsLack to word name
-        × (answers.new.items ≡ answers.old.items ++ (codes "! " ++ name))) }
+fn push_lack(answers: &mut Vec<u8>, to: Form) -> Result<(), AllocError>
+    ensures { OnOk result (answers.new.items ≡ answers.old.items ++ (codes "! " ++ lack_in_all to)) }
 {
     answers.extend_from_slice(b"! ")?;
-    answers.extend_from_slice(lack_of(word, to).as_bytes())
+    answers.extend_from_slice(lack_of(to).as_bytes())
 }
 
 /// Appends the answer for a word, and returns whether it has no text in the form.
@@ -69,7 +68,7 @@ fn push_word(answers: &mut Vec<u8>, word: Word, to: Form) -> Result<bool, AllocE
             Ok(false)
         }
         None => {
-            push_lack(answers, word, to)?;
+            push_lack(answers, to)?;
             Ok(true)
         }
     }
@@ -80,16 +79,21 @@ pub fn push_refusal_in_all(answers: &mut Vec<u8>, fault: AllFault) -> Result<(),
     ensures { OnOk result (answers.new.items ≡ answers.old.items ++ refusal_in_all fault) }
 {
     match fault {
-        AllFault::Tag(fault) => {
-            answers.extend_from_slice(b"! ")?;
-            answers.extend_from_slice(fault.name().as_bytes())
-        }
+        AllFault::Tag(fault) => push_name(answers, fault.name()),
+        AllFault::Supplier(fault) => push_name(answers, fault.name()),
         AllFault::Form(fault) => push_refusal(answers, fault),
     }
 }
 
-/// Appends the answer to a text as [`push_answer`](crate::push_answer) does, in the set of all schemes. A word of a further scheme has the
-/// forms `tag` and `hex`; in each other form it is answered by `! NoKey`.
+/// Appends the name of a rule that refuses a text.
+fn push_name(answers: &mut Vec<u8>, name: &str) -> Result<(), AllocError>
+    ensures { OnOk result (answers.new.items ≡ answers.old.items ++ (codes "! " ++ name.now)) }
+{
+    answers.extend_from_slice(b"! ")?;
+    answers.extend_from_slice(name.as_bytes())
+}
+
+/// Appends the answer to a text as [`push_answer`](crate::push_answer) does, in the set of all schemes.
 pub(crate) fn push_answer_in_all(
     answers: &mut Vec<u8>,
     text: &str,

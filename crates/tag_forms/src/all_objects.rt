@@ -2,9 +2,7 @@
 
 ghost use Rattle.std.specs.Prelude.{◌≡◌, ◌++◌, ◌<◌, List, ℕ, IfOk, IfSome, OnOk};
 ghost use Rattle.std.specs.Int.{IsInRange};
-ghost use Rattle.tag_forms.specs.AllAnswers.{IsLack};
 ghost use Rattle.tag_forms.specs.AllObjects.{IsMemberAnswerInAll, IsMemberInAll, IsMemberObjectInAll, IsObjectAnswerInAll, IsObjectInAll, IsReasonInAll, IsReasonInForm, reason_in_all, refused_in_all};
-ghost use Rattle.tag_forms.specs.Objects.{refused_as};
 
 use crate::all_answers::lack_of;
 use crate::all_forms::{AllFault, form_in_all, read_in_all};
@@ -73,6 +71,7 @@ fn push_fault_object(object: &mut Vec<u8>, fault: AllFault) -> Result<(), AllocE
 {
     match fault {
         AllFault::Tag(fault) => push_refused(object, fault.name()),
+        AllFault::Supplier(fault) => push_refused(object, fault.name()),
         AllFault::Form(fault) => push_refusal_object(object, fault),
     }
 }
@@ -114,21 +113,13 @@ fn push_reason_in(object: &mut Vec<u8>, word: Word, to: Form) -> Result<(), Allo
     push_reason(object, word)
 }
 
-/// Appends an object that says that a word has no text in a form.
-fn push_lack_object(object: &mut Vec<u8>, word: Word, to: Form) -> Result<(), AllocError>
-    ensures { OnOk result ((name : List ℕ) × IsLack to word name
-        × (object.new.items ≡ object.old.items ++ refused_as name)) }
-{
-    push_refused(object, lack_of(word, to))
-}
-
 /// Appends the object of a form of a word, and returns whether the word has no such text.
 fn push_form_object(object: &mut Vec<u8>, word: Word, to: Form) -> Result<bool, AllocError>
     ensures { IfOk result (λ refused. (answer : List ℕ) × IsMemberObjectInAll to word refused answer
         × (object.new.items ≡ object.old.items ++ answer)) }
 {
     let Some(_) = form_in_all(word, to) else {
-        push_lack_object(object, word, to)?;
+        push_refused(object, lack_of(to))?;
         return Ok(true);
     };
     push_member(object, b"{\"", word, to)?;

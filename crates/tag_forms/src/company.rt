@@ -1,12 +1,13 @@
 //! How many digits the company prefix of a key has, which the key does not say.
 
-ghost use Rattle.std.specs.Prelude.{◌≡◌, IfSome};
+ghost use Rattle.std.specs.Prelude.{◌≡◌, ℕ, List, IfNone, IfSome};
 ghost use Rattle.std.specs.Int.{IsInRange};
-ghost use Rattle.tag_forms.specs.Company.{IsCount, IsCountIn, IsUsable, spelling_at, within};
+ghost use Rattle.tag_forms.specs.Company.{IsCount, IsCountIn, IsFromCompany, IsUsable, spelling_at, within};
 
 use crate::form::{Form, form_of};
 use crate::prefixes::Prefixes;
 use tag_keys::{Spelling, digits_from_company};
+use tag_scheme_keys::from_company_in;
 
 /// How many digits the company prefixes of keys have.
 #[derive(Clone, Copy)]
@@ -39,6 +40,20 @@ fn within(count: Option<u8>) -> Option<u8>
     }
 }
 
+/// The text of a key from its company prefix on.
+fn from_company<'a>(text: &'a str, spelling: Spelling) -> Option<&'a str>
+    ensures some { IfSome result (λ digits. IsFromCompany spelling text.now digits.now) }
+    ensures none { IfNone result ((digits : List ℕ) → IsFromCompany spelling text.now digits → ⊥) }
+{
+    if let Some(digits) = digits_from_company(text, spelling) {
+        return Some(digits);
+    }
+    match from_company_in(text, spelling) {
+        Some(rest) => Some(rest),
+        None => None,
+    }
+}
+
 /// How many digits the table gives for the company prefix of a text's key.
 fn digits_in(table: &Prefixes, text: &str) -> Option<u8>
     ensures { IsCountIn table.now.entries.items text.now result }
@@ -46,7 +61,7 @@ fn digits_in(table: &Prefixes, text: &str) -> Option<u8>
     let Some(spelling) = spelling_of(form_of(text)) else {
         return None;
     };
-    let Some(digits) = digits_from_company(text, spelling) else {
+    let Some(digits) = from_company(text, spelling) else {
         return None;
     };
     within(table.company_digits(digits.as_bytes()))

@@ -76,7 +76,7 @@ pub fn form_of(text: &str) -> Form
         Form::Element
     } else if octets.starts_with(b"http") {
         Form::Link
-    } else if octets.starts_with(b"g") || octets.starts_with(b"s") {
+    } else if octets.starts_with(b"g") || octets.starts_with(b"s") || octets.starts_with(b"cpi") {
         Form::Key
     } else {
         Form::Hex

@@ -23,6 +23,7 @@ mod company;
 mod fault;
 mod form;
 mod form_lines;
+mod further_text;
 mod hexadecimal;
 pub mod laws;
 mod list;
@@ -30,6 +31,7 @@ mod member;
 mod object;
 mod prefixes;
 mod read_form;
+mod read_further;
 mod wanted;
 mod write_form;
 

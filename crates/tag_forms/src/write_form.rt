@@ -29,7 +29,7 @@ pub fn text_in(word: Word, form: Form) -> Option<ArrayString<96>>
 
 /// The text, in more room.
 pub(crate) fn copied(text: &str) -> ArrayString<96>
-    requires { length text.now ≤ 64 }
+    requires { length text.now ≤ 96 }
     ensures { result.bytes ≡ text.now }
 {
     let mut copy = ArrayString::new();
