@@ -22,7 +22,7 @@ from parts.ports import held_port, listens_at, wait_until
 from parts.repository import TOP, program_given
 
 # How many comparisons there are.
-LEAST = 144
+LEAST = 150
 # How long a run may take, in seconds.
 LONGEST = 60
 
@@ -363,32 +363,42 @@ def clients_that_misbehave():
         yield "two hundred clients by the clock", ended(run) == (0, "")
 
 
-def second_clients():
+def beside_one(serving, label):
     """A client that comes while another is served is refused, and one that comes after it is served."""
     refused = bytes.fromhex("043F 00000020 00000001 00F6 0016 0080 000C")
-    with living("--clients", "2") as (port, run):
+    with serving("--clients", "2") as (port, run):
         with Client(port) as first:
             first.await_kind(EVENT)
             for number in range(2):
                 with Client(port) as second:
                     second.send(message(GET_SUPPORTED_VERSION, 9))
                     said, end = second.frame(1), second.frame(1)
-                    yield f"client {number} beside the first is refused", (said[:18], said[26:], end) == (refused, b"\1\0\0\6\0\2", None)
+                    yield f"{label}: client {number} beside the first is refused", (said[:18], said[26:], end) == (refused, b"\1\0\0\6\0\2", None)
             first.send(message(GET_SUPPORTED_VERSION, 9))
             heard = [kind for kind, _ in first.heard(0.3)]
-            yield "the first is served on, and heard of both", heard == [EVENT, EVENT, GET_SUPPORTED_VERSION_RESPONSE]
+            yield f"{label}: the first is served on, and heard of both", heard == [EVENT, EVENT, GET_SUPPORTED_VERSION_RESPONSE]
             first.send(CLOSE)
             first.await_kind(CLOSE_CONNECTION_RESPONSE)
         with Client(port) as third:
             third.send(CLOSE)
-            yield "a client after it is served", [kind for kind, _ in third.heard(LONGEST)] == [EVENT, CLOSE_CONNECTION_RESPONSE, None]
-        yield "both ended well", ended(run) == (0, "")
-    with living("--clients", "100") as (port, run):
+            yield f"{label}: a client after it is served", [kind for kind, _ in third.heard(LONGEST)] == [EVENT, CLOSE_CONNECTION_RESPONSE, None]
+        yield f"{label}: both ended well", ended(run) == (0, "")
+    with serving("--clients", "100") as (port, run):
         served = 0
         for _ in range(100):
             with Client(port) as client:
                 served += client.frame(LONGEST)[26:] == b"\1\0\0\6\0\0"
-        yield "none of a hundred that come at once after another is refused", served == 100 and ended(run) == (0, "")
+        yield f"{label}: none of a hundred that come at once after another is refused", served == 100 and ended(run) == (0, "")
+
+
+def second_clients():
+    """Clients beside one that is served by a clock."""
+    yield from beside_one(living, "by a clock")
+
+
+def second_general_clients():
+    """Clients beside one that is served with --all and without a clock."""
+    yield from beside_one(general, "--all")
 
 
 def readers_that_misbehave():
@@ -571,7 +581,7 @@ def examples():
     yield "examples/python/test_client.py", done.returncode == 0 and "2 passed" in done.stdout
 
 
-PLAIN = (ready, one_after_another, whole_scripts, addresses, refusals, general_clients, examples)
+PLAIN = (ready, one_after_another, whole_scripts, addresses, refusals, general_clients, second_general_clients, examples)
 BY_CLOCK = (time_passes, lines_with_moments, clients_that_misbehave, second_clients, readers_that_misbehave, versions, answered, refused_clocks)
 
 

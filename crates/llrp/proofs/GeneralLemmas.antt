@@ -9,7 +9,7 @@ use Rattle.llrp_listing.specs.declared.outcome.ToolErr.TheVariants.{Memory}
 use Rattle.llrp_answers.specs.declared.answers.Pair.{Pair}
 use Rattle.llrp_answers.specs.Calls.Answers.{IsFile}
 use Rattle.llrp_endpoints.specs.declared.script.Entry.{Entry}
-use Rattle.llrp_general.specs.Calls.Serving.{RunsServeWhole, setting}
+use Rattle.llrp_general.specs.Calls.Serving.{RunsServeAmong, setting}
 use Rattle.llrp_commands.specs.declared.command.TheConstants.{LIMIT}
 use Rattle.llrp.specs.declared.network.TheConstants.{FIRST_ID}
 use Rattle.llrp.specs.Calls.Network.{Concludes}
@@ -17,9 +17,9 @@ use Rattle.llrp.specs.Calls.Clients.{IsGreater}
 use Rattle.llrp.specs.Calls.GeneralClients.{ServedGenerals, ServesGeneral, ServesGenerals, next_reader, none, one_more}
 use Rattle.llrp.proofs.ClientLemmas.{concluded}
 
-pub serves_general : (answers : List Pair) (entries : List Entry) (core left : Reader) (r0 r1 : SourceLog) (w0 w1 : SinkLog) (bytes : List ℕ) (outcome : Result (Unit {0}) ToolErr) → r0 ≡ new_source None → w0 ≡ new_sink None
-    → RunsServeWhole (setting core answers entries) left r0 r1 w0 w1 bytes outcome → ServesGeneral answers entries core left outcome
-serves_general answers entries core left r0 r1 w0 w1 bytes outcome source sink run = (r1, w1, bytes, rw (source, sink) at run)
+pub serves_general : (answers : List Pair) (entries : List Entry) (core left : Reader) (r0 r1 : SourceLog) (w0 w1 : SinkLog) (count : ℕ) (outcome : Result (Unit {0}) ToolErr) → r0 ≡ new_source None → w0 ≡ new_sink None
+    → RunsServeAmong (setting core answers entries) count left r0 r1 w0 w1 outcome → ServesGeneral answers entries core left outcome
+serves_general answers entries core left r0 r1 w0 w1 count outcome source sink run = (r1, w1, count, rw (source, sink) at run)
 
 module _ (text : List ℕ) (keep : Bool) (entries : List Entry) where
   pub none_failed : (n status : ℕ) (core : Reader) (e0 e1 : SinkLog) → ServedGenerals text keep entries n core e0 e1 status → e1.failures ≡ e0.failures

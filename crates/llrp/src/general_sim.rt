@@ -12,11 +12,13 @@ ghost use Rattle.llrp.specs.Private.GeneralClients.{MayServeGeneral};
 use crate::canned::AnswerText;
 use crate::clients::{most_clients, say_ready};
 use crate::network::{FIRST_ID, conclude};
+use crate::one_at_a_time::Clients;
 use crate::sim::{listens_on, port_of};
+use crate::watched::{Beside, Watched};
 use llrp_answers::Answers;
 use llrp_commands::{LIMIT, SimWords};
 use llrp_endpoints::Script;
-use llrp_general::run_serve_whole;
+use llrp_general::run_serve_among;
 use llrp_listing::ToolErr;
 use llrp_session::Reader;
 use llrp_stream::{Input, Output, Sink, Source};
@@ -38,38 +40,51 @@ pub fn next_core(alloc: Global, keep: bool, left: Reader) -> Reader
     if keep { left } else { new_reader(alloc) }
 }
 
-/// Serves the client of a stream by a reader, a script and answers. Returns how that ended, and the
-/// reader that the client left.
+/// Serves the client of a stream by a reader, a script and answers, and refuses others meanwhile.
+/// Returns how that ended, and the reader that the client left.
 fn serve_stream(
     alloc: Global,
     stream: &TcpStream,
+    clients: &mut Clients<'_>,
     core: Reader,
     script: Script,
     answers: Answers,
 ) -> (Result<(), ToolErr>, Reader)
     ensures { ServesGeneral answers.pairs.items script core result.1 result.0 }
 {
-    let mut source = Input::new(stream);
+    let watched = Watched::new(stream);
+    let mut others = Beside::new(alloc, &watched, clients);
+    let mut source = Input::new(&watched);
     let mut sink = Output::new(stream);
-    run_serve_whole(alloc, core, script, answers, &mut source, &mut sink)
+    run_serve_among(
+        alloc,
+        core,
+        script,
+        answers,
+        &mut others,
+        &mut source,
+        &mut sink,
+    )
 }
 
-/// Serves the next client of a listener, as `serve_stream` does. `None` means that the network failed.
+/// Serves the next client, as `serve_stream` does. `None` means that the network failed.
 fn serve_next(
     alloc: Global,
-    listener: &TcpListener,
+    clients: &mut Clients<'_>,
     core: Reader,
     script: Script,
     answers: Answers,
 ) -> Option<(Result<(), ToolErr>, Reader)>
     ensures { MayServeGeneral answers.pairs.items script core result }
 {
-    let (stream, _) = listener.accept().ok()?;
-    Some(serve_stream(alloc, &stream, core, script, answers))
+    let stream = clients.next()?;
+    Some(serve_stream(
+        alloc, &stream, clients, core, script, answers,
+    ))
 }
 
 /// Serves clients of a listener one after another by the script from its beginning, each as a new
-/// reader, or as the one that the client before it left. For each one that did not end well it writes
+/// reader, or as the one that the client before it left, and refuses who comes meanwhile. For each one that did not end well it writes
 /// how that ended as a line to `e`. Returns the greatest of their exit statuses.
 fn serve_clients<E: Sink>(
     alloc: Global,
@@ -84,6 +99,7 @@ fn serve_clients<E: Sink>(
     ensures { ServesGenerals answers.now.text.items keep script.now most (E.log e.old) (E.log e.new)
         result }
 {
+    let mut clients = Clients::new(listener);
     let mut core = new_reader(alloc);
     let mut status = 0;
     for _ in 0..most {
@@ -93,7 +109,7 @@ fn serve_clients<E: Sink>(
         let Ok(answers) = answers.answers(alloc) else {
             return conclude(Some(Err(ToolErr::Memory)), e);
         };
-        let Some((outcome, left)) = serve_next(alloc, listener, core, script, answers) else {
+        let Some((outcome, left)) = serve_next(alloc, &mut clients, core, script, answers) else {
             return conclude(None, e);
         };
         core = next_core(alloc, keep, left);

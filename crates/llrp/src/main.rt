@@ -57,6 +57,7 @@ mod terminal;
 mod timed;
 mod watch;
 mod watch_plan;
+mod watched;
 mod whole_frames;
 
 use address::address_of;

@@ -9,18 +9,18 @@ use Rattle.llrp_answers.specs.declared.answers.Pair.{Pair}
 use Rattle.llrp_answers.specs.Calls.Answers.{IsFile}
 use Rattle.llrp_endpoints.specs.declared.script.Entry.{Entry}
 use Rattle.llrp_endpoints.specs.Calls.ReadScript.{ReadsScript}
-use Rattle.llrp_general.specs.Calls.Serving.{RunsServeWhole, setting}
+use Rattle.llrp_general.specs.Calls.Serving.{RunsServeAmong, setting}
 use Rattle.llrp_commands.specs.declared.arguments.sim_words.SimWords.{SimWords}
 use Rattle.llrp_commands.specs.declared.command.TheConstants.{LIMIT}
 use Rattle.llrp.specs.declared.network.TheConstants.{FIRST_ID}
 use Rattle.llrp.specs.Calls.Network.{Concludes}
 use Rattle.llrp.specs.Calls.Clients.{IsGreater, ServesThere, most_clients}
 
--- A reader served a client by these answers and these entries and was left so, over a source and a sink of which nothing was read or
--- written before; std's contracts say neither what a socket has left to read nor what it took.
+-- A reader served a client by these answers and these entries, while some other clients came, and was left so, over a source and a sink of
+-- which nothing was read or written before; std's contracts say neither what a socket has left to read nor what it took.
 abbrev pub ServesGeneral : List Pair → List Entry → (core left : Reader) → Result (Unit {0}) ToolErr → Type 0
-ServesGeneral answers entries core left outcome = (source : SourceLog) × (sink : SinkLog) × (bytes : List ℕ)
-    × RunsServeWhole (setting core answers entries) left (new_source None) source (new_sink None) sink bytes outcome
+ServesGeneral answers entries core left outcome = (source : SourceLog) × (sink : SinkLog) × (count : ℕ)
+    × RunsServeAmong (setting core answers entries) count left (new_source None) source (new_sink None) sink outcome
 
 -- the reader for the next client: the one that was left, if it is kept, or one as new
 abbrev pub next_reader : (keep : Bool) → Reader → Reader

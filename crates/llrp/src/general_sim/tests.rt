@@ -21,9 +21,10 @@ fn answered(rt: &HostRuntime, sent: &[u8]) -> Result<Vec<u8>, Fail> {
     client.write_all(sent)?;
     client.shutdown(Shutdown::Write)?;
     let script = Script::parse(alloc, b"")?;
+    let mut clients = Clients::new(&listener);
     let served = serve_next(
         alloc,
-        &listener,
+        &mut clients,
         new_reader(alloc),
         script,
         Answers::new(alloc),
