@@ -186,6 +186,7 @@ did_due n entries b before bytes items old new taken left k out0 out1 is d does 
       are = subst (λ (es : List Entry). AreDue n (count_of b items) entries es) (sym p.taken) p.now.are;
       did = does b before bytes items lives;
       has_done = done_more n (count_of b items) entries old.script new.script old.done new.done old.moment new.moment left k p script done moment may;
+      moment = moment;
     }
 
 pub did_some_due : (n : ℕ) (entries : List Entry) (b : Begun) (before : List Dated) (bytes : List ℕ) (items : List Item) (old new : WholeReader) (taken : ℕ) (left : List Entry) (k : ℕ)

@@ -3,6 +3,8 @@ pub mod DueLemmas
 pub mod FrameLemmas
 pub mod ItemLemmas
 pub mod LocatedLemmas
+pub mod NoteLemmas
+pub mod OtherLemmas
 pub mod PartLemmas
 pub mod PieceLemmas
 pub mod ServeLemmas

@@ -18,9 +18,8 @@ use Rattle.llrp_live.specs.Calls.Doings.{Dated, agreed, closes, comes_in, course
 use Rattle.llrp_live.specs.Calls.Living.{NoneCloses, came}
 use Rattle.llrp_live.specs.Calls.RefusedRequests.{refused_place}
 use Rattle.llrp_general.specs.Calls.Located.{MayPlace, WithPlace}
-use Rattle.llrp_general.specs.Calls.Serving.{Setting, Step, AreSent, Begins, IsSentFor, all_dated, by_script, closing_steps, connecting, count_after, due_after, steps, steps_from, taking}
+use Rattle.llrp_general.specs.Calls.Serving.{Setting, Step, AreSent, Begins, IsDone, IsSentFor, all_dated, by_script, connecting, count_after, due_after, next_step, steps, steps_from, taking}
 use Rattle.llrp_general.specs.Private.Acting.{entry_dates}
-use Rattle.llrp_general.specs.Private.Standing.{here}
 use Rattle.llrp_live.proofs.LiveLemmas.{reader-append}
 use Rattle.llrp_general.proofs.ActingLemmas.{dated-append}
 
@@ -52,7 +51,7 @@ due_here s items item = due_after s.entries (came s.answers First items) (doing 
 zero_more : (n : ℕ) → 0 + n ≡ n
 zero_more n = omega arith
 
-pub steps-snoc : (s : Setting) (items : List Item) (item : Item) → steps s (items ++ item ∷ []) ≡ steps s items ++ (here s items item ∷ due_here s items item)
+pub steps-snoc : (s : Setting) (items : List Item) (item : Item) → steps s (items ++ item ∷ []) ≡ steps s items ++ (next_step s items item ∷ due_here s items item)
 unfolding steps
 steps-snoc s items item =
     let first : List Step = map by_script (entries_at 0 s.entries) in
@@ -64,10 +63,6 @@ steps-snoc s items item =
 pub steps-none : (s : Setting) → steps s [] ≡ connecting ∷ map by_script (entries_at 0 s.entries)
 unfolding steps
 steps-none s = ap (λ (xs : List Step). connecting ∷ xs) (append-nil (map by_script (entries_at 0 s.entries)))
-
-pub closing-is : (s : Setting) (items : List Item) (last : Item) → closing_steps s items last ≡ steps s items ++ here s items last ∷ []
-unfolding closing_steps
-closing-is s items last = refl
 
 pub none_push : (items : List Item) (item : Item) → NoneCloses items → closes item ≡ false → NoneCloses (items ++ item ∷ [])
 none_push [] item h c = (c, tt)
@@ -111,9 +106,9 @@ some_sent r (step ∷ a) =
 -- ---- where memory ran out
 
 -- Steps were done after those whose messages were sent, and others not.
-pub begins_at : (s : Setting) (bytes : List ℕ) (messages : List MessageTree) (items : List Item) (rest : List ℕ) (first more undone : List Step) (core : Reader) → ItemsSoFarIn Standard s.reader.limit bytes items rest
-    → steps s items ≡ (first ++ more) ++ undone → AreSent s.reader first messages → core ≡ (course (course s.reader (all_dated first)).reader (all_dated more)).reader → Begins s (for_next_client core) bytes messages
-begins_at s bytes messages items rest first more undone core are parts sent is =
+pub begins_at : (s : Setting) (others : ℕ) (bytes : List ℕ) (messages : List MessageTree) (items : List Item) (rest : List ℕ) (first more undone : List Step) (core : Reader) → ItemsSoFarIn Standard s.reader.limit bytes items rest
+    → IsDone s others items ((first ++ more) ++ undone) → AreSent s.reader first messages → core ≡ (course (course s.reader (all_dated first)).reader (all_dated more)).reader → Begins s others (for_next_client core) bytes messages
+begins_at s others bytes messages items rest first more undone core are is_done sent is =
     let later = some_sent (course s.reader (all_dated first)).reader more in
     record {
       items = items;
@@ -121,7 +116,7 @@ begins_at s bytes messages items rest first more undone core are parts sent is =
       are = are;
       done = first ++ more;
       undone = undone;
-      parts = parts;
+      is_done = is_done;
       unsent = later.0;
       sent = are_append s.reader first more messages later.0 sent later.1;
       leaves = ap for_next_client (is ∙ sym (reader-append s.reader (all_dated first) (all_dated more)) ∙ ap (λ (ds : List Dated). (course s.reader ds).reader) (sym (dated-append first more)));

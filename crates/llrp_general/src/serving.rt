@@ -14,7 +14,7 @@ use llrp_endpoints::Script;
 use llrp_listing::ToolErr;
 use llrp_live::LiveReader;
 use llrp_schema::KindSet;
-use llrp_session::{Reader, ReaderIn};
+use llrp_session::{Reader, ReaderIn, SideEvent};
 use llrp_stream::{Decoder, End, Fed, FeedErr, Item};
 use llrp_tree::Message;
 use std::alloc::Global;
@@ -57,7 +57,7 @@ fn end_of(error: FeedErr) -> Result<Going, ToolErr>
 }
 
 impl WholeReader {
-    ghost use Rattle.llrp_general.specs.Private.Standing.{Feeds, Fetches, Finishes, Holds, IsFresh, IsKept, Stands, Starts, Takes};
+    ghost use Rattle.llrp_general.specs.Private.Standing.{Feeds, Fetches, Finishes, Holds, IsFresh, IsKept, Notes, Stands, Starts, Takes};
     ghost use Rattle.llrp_general.specs.Private.Due.{DoesDue};
 
     /// A reader before its client came, its script, and its answers to messages that the profile does
@@ -81,6 +81,11 @@ impl WholeReader {
     /// The allocator.
     pub(crate) fn alloc(&self) -> Global {
         self.alloc
+    }
+
+    /// The moment of the last entry done, or 0 if none is.
+    pub(crate) fn moment(&self) -> u64 {
+        self.moment
     }
 
     /// The reader as its client leaves it to the next one.
@@ -109,6 +114,16 @@ impl WholeReader {
     {
         self.reader.happen(0, ReaderIn::Connect, sent)?;
         self.happen_due(sent)
+    }
+
+    /// Says that another client came, which a client always hears. Appends what is sent. The only error
+    /// is `Memory`.
+    pub(crate) fn note_other(&mut self, sent: &mut Vec<Message>) -> Result<(), ToolErr>
+        ensures { Notes self.old self.new sent.old.items sent.new.items result }
+    {
+        self.reader
+            .notify(self.moment, SideEvent::OtherClient, sent)?;
+        Ok(())
     }
 
     /// Takes octets of a frame that does not end with them, to which nothing is sent. The only error is
@@ -184,8 +199,9 @@ impl WholeReader {
 
     /// How the input ends if no more octets follow. The error is `Early` within a frame.
     pub(crate) fn finish(&self) -> Result<(), ToolErr>
-        ensures { (s : Setting) (bytes : List ℕ) (messages : List MessageTree)
-            → Stands s bytes messages self.now → Finishes s bytes messages self.now result }
+        ensures { (s : Setting) (others : ℕ) (bytes : List ℕ) (messages : List MessageTree)
+            → Stands s others bytes messages self.now
+            → Finishes s others bytes messages self.now result }
     {
         match self.decoder.finish() {
             End::Clean => Ok(()),

@@ -6,13 +6,13 @@ use Rattle.llrp_listing.specs.declared.outcome.ToolErr.{ToolErr}
 use Rattle.llrp_listing.specs.declared.outcome.ToolErr.TheVariants.{Memory}
 use Rattle.llrp_versions.specs.declared.version.Version.TheVariants.{First}
 use Rattle.llrp_endpoints.specs.declared.script.Entry.{Entry}
-use Rattle.llrp_endpoints.specs.Serving.{entries_at}
+use Rattle.llrp_endpoints.specs.Serving.{entries_at, last_moment}
 use Rattle.llrp_live.specs.Calls.Doings.{Dated}
 use Rattle.llrp_live.specs.Calls.Living.{Begun, Lives, came}
 use Rattle.llrp_general.specs.Private.Acting.{Did, DidSome, HasDone, entry_dates}
 use Rattle.llrp_general.specs.declared.serving.WholeReader.{WholeReader}
 
--- so many frames came to a reader
+-- how many frames came to a reader
 abbrev pub count_of : Begun → List Item → ℕ
 count_of b items = came b.answers First items
 
@@ -30,6 +30,7 @@ pub record DidDue (done : ℕ) (entries : List Entry) (b : Begun) (before : List
   pub are : AreDue done (count_of b items) entries due
   pub did : Did (entry_dates due) b before bytes items old.reader new.reader out0 out1
   pub has_done : HasDone (count_of b items + 1) entries new.script new.done new.moment
+  pub moment : new.moment ≡ last_moment old.moment due
 
 -- or some first ones of them
 pub record DidSomeDue (done : ℕ) (entries : List Entry) (b : Begun) (items : List Item) (old new : WholeReader) : Type 0 where
