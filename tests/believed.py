@@ -65,7 +65,7 @@ PROMISES = {
 
 # What a promise rests on besides: `sim --all`, clients without an end, and what makes a script and a plan.
 BESIDES = {
-    "8 both ends": "llrp_general::run_serve_whole llrp_endpoints::run_lasting llrp_endpoints::Script::parse llrp_endpoints::standard_plan"
+    "8 both ends": "llrp_general::run_serve_among llrp_endpoints::run_lasting llrp_endpoints::Script::parse llrp_endpoints::standard_plan"
                    " llrp_endpoints::checked_plan llrp_endpoints::Plan::parse llrp_endpoints::Plan::of llrp_endpoints::Plan::cleaning"
                    " llrp_endpoints::Plan::renewing llrp_endpoints::Plan::removing llrp_endpoints::Plan::saying"
                    " llrp_endpoints::Plan::keeping llrp_endpoints::Plan::awaiting llrp_endpoints::Plan::in_form llrp_endpoints::Plan::in_set"
