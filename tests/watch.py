@@ -48,7 +48,7 @@ MADE_OF_TWO = bytes.fromhex(
 # A word of the EPC Tag Data Standard 1.13, appendix E, of the scheme GIAI-96, with its tag URI and its raw URI, and the GTIN of the other tags,
 # which that standard works out of their company prefix and item (section 7.1).
 GIAI = bytes.fromhex("3474257BF40000000000162E")
-GIAI_TEXT = "urn:epc:tag:giai-96:3.0614141.5678"
+GIAI_TEXT, GIAI_KEY = "urn:epc:tag:giai-96:3.0614141.5678", "06141415678"
 RAW_TEXT = "urn:epc:raw:96.x3474257BF40000000000162E"
 GTIN = "80614141123458"
 LABEL_CLASH = "--keys goes with lines of JSON, --schemes takes all, and neither goes with '--messages'"
@@ -409,17 +409,21 @@ def label_runs():
     yield "watch: the texts of all schemes", [tag["epc"] for tag in tags] == [epc_text(0), GIAI_TEXT, epc_text(1)]
     keys = [[("gtin", GTIN), ("serial", str(serial))] for serial in (0, 1)]
     yield "watch: the keys are the last members", [list(tag.items())[-2:] for tag in tags[::2]] == keys
-    yield "watch: no key", set(tags[1]) == {"at", "reader", "epc", "antenna", "rssi", "FirstSeenTimestampUTC", "TagSeenCount"}
+    others = {"at", "reader", "epc", "antenna", "rssi", "FirstSeenTimestampUTC", "TagSeenCount"}
+    is_last = list(tags[1].items())[-1] == ("giai", GIAI_KEY)
+    yield "watch: the key of a further scheme", is_last and set(tags[1]) == {*others, "giai"}
+    alone = [json.loads(line) for line in run(reader, "watch", "--keys", "--name", "dock")[1].splitlines()]
+    yield "watch: no key among the seven schemes", set(alone[1]) == others and "gtin" in alone[0]
     plain = [json.loads(line) for line in run(reader, "watch", "--name", "dock")[1].splitlines()]
     yield "watch: without them", [tag["epc"] for tag in plain] == [epc_text(0), RAW_TEXT, epc_text(1)] and not any("gtin" in tag for tag in plain)
-    kept = [{name: value for name, value in tag.items() if name not in ("at", "epc", "gtin", "serial")} for tag in tags]
+    kept = [{name: value for name, value in tag.items() if name not in ("at", "epc", "gtin", "giai", "serial")} for tag in tags]
     yield "watch: all else is the same", kept == [{name: value for name, value in tag.items() if name not in ("at", "epc")} for tag in plain]
     words = run(reader, "watch", "--text", "--schemes", "all")[1]
     wanted = [f"{text} 1 -60" for text in (epc_text(0), GIAI_TEXT, epc_text(1))]
     yield "watch --text: the texts of all schemes", [line.rsplit(" ", 1)[0] for line in words.splitlines()] == wanted
     reader = Reader(tags=2, odd=lambda number: tag_report(number, 0, word=GIAI), end="stays")
     inventory = ("inventory", str(reader.port), "--reports", "3")
-    wanted = inventory_lines(tag_object(epc_text(0), key_members(0)), tag_object(GIAI_TEXT), tag_object(epc_text(1), key_members(1)))
+    wanted = inventory_lines(tag_object(epc_text(0), key_members(0)), tag_object(GIAI_TEXT, f',"giai":"{GIAI_KEY}"'), tag_object(epc_text(1), key_members(1)))
     yield "inventory", run_at("127.0.0.1", *inventory, "--json", "--keys", "--schemes", "all") == (0, wanted, "")
     wanted = inventory_lines(tag_object(epc_text(0)), tag_object(RAW_TEXT), tag_object(epc_text(1)))
     yield "inventory: without them", run_at("127.0.0.1", *inventory, "--json") == (0, wanted, "")

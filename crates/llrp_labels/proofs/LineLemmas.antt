@@ -11,11 +11,8 @@ use Rattle.tag_schemes.specs.declared.numbers.Numbers.{Numbers}
 use Rattle.tag_schemes.specs.declared.supplier.Supplier.{Supplier}
 use Rattle.tag_schemes.specs.Suppliers.{supplier_uri}
 use Rattle.tag_schemes.specs.Texts.{uri_in}
-use Rattle.tag_schemes.proofs.SetFacts.{one_epc, sets_apart}
 use Rattle.tag_schemes.proofs.TextLaws.{words_apart_in, same_text_in}
-use Rattle.tag_keys.specs.declared.spelling.Spelling.TheVariants.{Named}
-use Rattle.tag_scheme_keys.specs.KeyText.{key_in}
-use Rattle.tag_forms.specs.AllForms.{IsFormInAll}
+use Rattle.tag_forms.proofs.AllLemmas.{one_text_in_all}
 use Rattle.tag_forms.proofs.FormLemmas.{one_text}
 use Rattle.tag_schemes.proofs.SupplierTexts.{supplier_uri_is}
 use Rattle.tag_schemes.proofs.WriteFacts.{uri_in_is}
@@ -162,15 +159,9 @@ one_among : (schemes : Bool) (word : ℕ) (s t : List ℕ) → IsTextAmong schem
 one_among true word s t h k = same_text_in word s t h k
 one_among false word s t h k = texts_same word s t h k
 
-one_key_in_all : (word : ℕ) (s t : List ℕ) → IsFormInAll Key word s → IsFormInAll Key word t → s ≡ t
-one_key_in_all word s t (inl (d, a, e)) (inl (m, b, f)) = e ∙ ap (key_in Named) (one_epc d m word a b) ∙ sym f
-one_key_in_all word s t (inl (d, a, e)) (inr (p, b, k)) = absurd (sets_apart p d word b a)
-one_key_in_all word s t (inr (p, a, k)) (inl (m, b, f)) = absurd (sets_apart p m word a b)
-one_key_in_all word s t (inr h) (inr k) = one_text Key word s t h k
-
 -- a word's EPC has one key
 pub one_key : (schemes : Bool) (word : ℕ) (s t : List ℕ) → IsKeyAmong schemes word s → IsKeyAmong schemes word t → s ≡ t
-one_key true word s t h k = one_key_in_all word s t h k
+one_key true word s t h k = one_text_in_all Key word s t h k
 one_key false word s t h k = one_text Key word s t h k
 
 one_mark : (schemes keys : Bool) (word : ℕ) (s t : List ℕ) → IsMark schemes keys word s → IsMark schemes keys word t → s ≡ t
