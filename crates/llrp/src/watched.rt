@@ -64,6 +64,7 @@ impl Read for &Watched<'_> {
 }
 
 /// The other clients that come to a listener while one of its clients is served.
+#[derive(Drop)]
 pub struct Beside<'a, 'b> {
     alloc: Global,
     served: &'a Watched<'a>,

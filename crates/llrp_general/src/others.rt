@@ -25,3 +25,6 @@ impl OtherClients for Nobody {
         false
     }
 }
+
+#[cfg(test)]
+mod tests;

@@ -16,7 +16,7 @@ use llrp_session::Reader;
 use llrp_stream::{Sink, Source};
 use std::alloc::Global;
 
-/// How many other clients a reader hears of, at most, before octets of its client come.
+/// The greatest number of other clients of which a client hears between two reads.
 const MOST_OTHERS: u64 = 9_223_372_036_854_775_807;
 
 /// Whether the client closed the connection, after a piece after which it goes so.

@@ -116,7 +116,7 @@ impl WholeReader {
         self.happen_due(sent)
     }
 
-    /// Says that another client came, which a client always hears. Appends what is sent. The only error
+    /// Says that another client came, which no client can turn off. Appends what is sent. The only error
     /// is `Memory`.
     pub(crate) fn note_other(&mut self, sent: &mut Vec<Message>) -> Result<(), ToolErr>
         ensures { Notes self.old self.new sent.old.items sent.new.items result }

@@ -37,8 +37,8 @@ fn push_form_lines(
     }
 }
 
-/// Writes the forms of a text's word as [`run_forms`](crate::run_forms) does, in the set of all schemes: a word of a further scheme has
-/// the forms `tag` and `hex` (EPC Tag Data Standard 1.13, section 12). The errors are those of [`run_forms`](crate::run_forms).
+/// Writes the forms of a text's word as [`run_forms`](crate::run_forms) does, in the set of all schemes (EPC Tag Data Standard 1.13,
+/// sections 6, 7 and 12). The errors are those of [`run_forms`](crate::run_forms).
 pub fn run_forms_in_all<W: Sink>(
     alloc: Global,
     text: &str,
