@@ -135,7 +135,7 @@ none_counted : (count : ℕ) (came : Bool) → came ≡ false → count_after_on
 none_counted count false e = refl
 none_counted count true e = absurd cc
 
--- All was written since the beginning, whoever is served and whenever it began.
+-- All that was sent since a reader and its log were so was written, whoever is served.
 pub record Noted (w0 w1 : SinkLog) (count0 count1 : ℕ) (first server : WholeReader) : Type 0 where
   pub can : CanWrite w1
   pub serves : (s : Setting) (before : ℕ) (bytes : List ℕ) (w : SinkLog) → count0 ≡ counted before → Served s before bytes w w0 first → (others : ℕ) × (count1 ≡ counted others) × Served s others bytes w w1 server

@@ -59,7 +59,7 @@ fn take_piece<W: Sink>(server: &mut WholeReader, piece: &[u8], w: &mut W) -> Res
     answer_of(going)
 }
 
-/// Lets the client hear that another one came.
+/// Lets the client hear that another one came. The errors are `Memory` and `Write`.
 fn note_other<W: Sink>(server: &mut WholeReader, w: &mut W) -> Result<(), ToolErr>
     requires { CanWrite (W.log w.old) }
     ensures notes { (s : Setting) (others : ℕ) (bytes : List ℕ) (w0 : SinkLog)
@@ -73,7 +73,8 @@ fn note_other<W: Sink>(server: &mut WholeReader, w: &mut W) -> Result<(), ToolEr
     say(alloc, sent.as_slice(), w)
 }
 
-/// Lets the client hear of each other one that comes before octets of its own do.
+/// Lets the client hear of each other one that comes before octets of its own do. The errors are
+/// `Memory` and `Write`.
 fn note_others<O: OtherClients, W: Sink>(
     server: &mut WholeReader,
     others: &mut O,

@@ -64,7 +64,8 @@ steps_from s count v (item ∷ items) =
     let what = doing s.answers v item in
     taking s count v item ∷ (due_after s.entries count what ++ steps_from s (count_after count what) (next_version v item) items)
 
--- all that is done: a client connects, the entries before any item happen, and then the items are taken; a connection begins in version 1
+-- all that is done where no other client comes: the client connects, the entries before any item happen, and then the items are taken; a
+-- connection begins in version 1
 unfoldable pub steps : Setting → List Item → List Step
 steps s items = connecting ∷ (map by_script (entries_at 0 s.entries) ++ steps_from s 0 First items)
 
@@ -78,7 +79,7 @@ next_step s items item = taking s (came s.answers First items) (agreed First ite
 abbrev pub counted : ℕ → ℕ
 counted others = min others 18446744073709551615
 
--- the count after one more asked whether another client came
+-- the count after it was asked whether another client came
 abbrev pub count_after_one : ℕ → Bool → ℕ
 count_after_one count came = if came then counted (count + 1) else count
 
