@@ -139,7 +139,7 @@ them is ! REASON. With --json, beside --forms or --list, a line is an object wit
 and beside --to with that of the form.
 
 With --schemes all words of GIAI-96, GSRNP-96, SGCN-96, CPI-96 and USDoD-96 have their tag URIs, which are
-raw URIs without it. Such a word has the forms tag and hex, and in each other form it is ! NoKey.
+raw URIs without it, and with --forms, --to and --list their other forms; USDoD-96 has no key.
 
 Examples:
   $ llrp epc 3074257BF7194E4000001A85
