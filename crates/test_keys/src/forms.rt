@@ -8,7 +8,6 @@ use tag_forms::{
     push_forms_in_all, read_in_all, text_in, word_in,
 };
 use tag_keys::KeyFault;
-use tag_schemes::SchemeFault;
 
 /// The forms of one word each, in the order of [`FORMS`]; the filter value is 3 and the company prefix has 7
 /// digits (EPC Tag Data Standard 1.13, sections 7 and 14, and appendix E).
@@ -133,46 +132,113 @@ fn lines_of_forms(rt: HostRuntime) -> Result<(), Fail> {
     Ok(())
 }
 
-/// Words of further schemes: the GIAI-96 of EPC Tag Data Standard 1.13, appendix E, and a USDoD-96 by hand from its layout.
-const FURTHER: [(u128, &str, &str, &str); 2] = [
+/// The forms of one word of each further scheme with a company prefix, in the order of [`FORMS`]; the filter value is 3 and the company
+/// prefix has 7 digits (EPC Tag Data Standard 1.13, sections 6, 7 and 14, and appendix E).
+const FURTHER: [(u128, [&str; 6]); 4] = [
     (
         0x3474257BF40000000000162E,
-        "urn:epc:tag:giai-96:3.0614141.5678",
-        "3474257BF40000000000162E",
-        "tag urn:epc:tag:giai-96:3.0614141.5678\nhex 3474257BF40000000000162E\n",
+        [
+            "urn:epc:tag:giai-96:3.0614141.5678",
+            "urn:epc:id:giai:0614141.5678",
+            "(8004)06141415678",
+            "https://id.gs1.org/8004/06141415678",
+            "3474257BF40000000000162E",
+            "giai 06141415678",
+        ],
     ),
     (
-        0x2F32032533139342DFDC1C35,
-        "urn:epc:tag:usdod-96:3.2S194.12345678901",
-        "2F32032533139342DFDC1C35",
-        "tag urn:epc:tag:usdod-96:3.2S194.12345678901\nhex 2F32032533139342DFDC1C35\n",
+        0x2E74257BF4499602D2000000,
+        [
+            "urn:epc:tag:gsrnp-96:3.0614141.1234567890",
+            "urn:epc:id:gsrnp:0614141.1234567890",
+            "(8017)061414112345678902",
+            "https://id.gs1.org/8017/061414112345678902",
+            "2E74257BF4499602D2000000",
+            "gsrnp 061414112345678902",
+        ],
+    ),
+    (
+        0x3F74F4E4E612640000019907,
+        [
+            "urn:epc:tag:sgcn-96:3.4012345.67890.04711",
+            "urn:epc:id:sgcn:4012345.67890.04711",
+            "(255)401234567890104711",
+            "https://id.gs1.org/255/401234567890104711",
+            "3F74F4E4E612640000019907",
+            "gcn 4012345678901 04711",
+        ],
+    ),
+    (
+        0x3C74257BF400C0E680003039,
+        [
+            "urn:epc:tag:cpi-96:3.0614141.98765.12345",
+            "urn:epc:id:cpi:0614141.98765.12345",
+            "(8010)061414198765(8011)12345",
+            "https://id.gs1.org/8010/061414198765/8011/12345",
+            "3C74257BF400C0E680003039",
+            "cpi 061414198765 12345",
+        ],
     ),
 ];
 
+/// A word of USDoD-96 by hand from its layout, and its forms (EPC Tag Data Standard 1.13, section 6).
+const SUPPLIER: u128 = 0x2F32032533139342DFDC1C35;
+
+const SUPPLIER_TAG: &str = "urn:epc:tag:usdod-96:3.2S194.12345678901";
+
+const SUPPLIER_ID: &str = "urn:epc:id:usdod:2S194.12345678901";
+
+const SUPPLIER_LINES: &str =
+    "tag urn:epc:tag:usdod-96:3.2S194.12345678901\npure urn:epc:id:usdod:2S194.12345678901\nhex 2F32032533139342DFDC1C35\n";
+
 #[test]
 fn words_of_further_schemes(rt: HostRuntime) -> Result<(), Fail> {
-    for (number, tag, hex, forms) in FURTHER {
+    for (number, texts) in FURTHER {
         let word = Word::new(number).ok_or("no word")?;
-        let text = form_in_all(word, Form::Tag).ok_or("no text")?;
-        assert_eq!(rt; text.as_str(), tag);
-        let text = form_in_all(word, Form::Hex).ok_or("no digits")?;
-        assert_eq!(rt; text.as_str(), hex);
-        assert!(rt; form_in_all(word, Form::Pure).is_none());
-        assert!(rt; form_in_all(word, Form::Key).is_none());
-        assert_eq!(rt; read_in_all(tag, Form::Tag, 0, None), Ok(word));
-        assert_eq!(rt; read_in_all(hex, Form::Hex, 0, None), Ok(word));
-        let mut lines = Vec::new(rt.alloc());
-        push_forms_in_all(&mut lines, word)?;
-        assert!(rt; lines.as_slice() == forms.as_bytes());
+        for at in 0..6 {
+            let text = form_in_all(word, FORMS[at]).ok_or("no text")?;
+            assert_eq!(rt; text.as_str(), texts[at]);
+            assert_eq!(rt; form_of(texts[at]), FORMS[at]);
+            assert_eq!(rt; read_in_all(texts[at], FORMS[at], 3, Some(7)), Ok(word));
+        }
     }
-    let code = AllFault::Tag(SchemeFault::Code);
+    Ok(())
+}
+
+#[test]
+fn forms_of_suppliers(rt: HostRuntime) -> Result<(), Fail> {
+    let word = Word::new(SUPPLIER).ok_or("no word")?;
+    let mut lines = Vec::new(rt.alloc());
+    push_forms_in_all(&mut lines, word)?;
+    assert_eq!(rt; lines.as_slice(), SUPPLIER_LINES.as_bytes());
+    assert!(rt; form_in_all(word, Form::Key).is_none());
+    assert_eq!(rt; read_in_all(SUPPLIER_TAG, Form::Tag, 0, None), Ok(word));
+    assert_eq!(rt; read_in_all(SUPPLIER_ID, Form::Pure, 3, None), Ok(word));
+    Ok(())
+}
+
+/// Texts that are refused in the set of all schemes, the form that each is read in, and the rule's name.
+const REFUSED_IN_ALL: [(&str, Form, &str); 8] = [
+    ("urn:epc:tag:usdod-96:3.2I194.1", Form::Tag, "Code"),
+    ("urn:epc:id:usdod:2I194.1", Form::Pure, "Code"),
+    ("urn:epc:id:usdod:2S194.01", Form::Pure, "LeadingZero"),
+    ("urn:epc:id:giai:0614141.05678", Form::Pure, "LeadingZero"),
+    ("urn:epc:id:gsrnx:0614141.1234567890", Form::Pure, "Scheme"),
+    ("(8017)061414112345678903", Form::Element, "Check"),
+    ("cpi 061414198765", Form::Key, "Serial"),
+    ("30", Form::Hex, "Hex"),
+];
+
+#[test]
+fn refused_in_all(rt: HostRuntime) -> Result<(), Fail> {
+    for (text, form, name) in REFUSED_IN_ALL {
+        let fault = read_in_all(text, form, 3, Some(7)).err().ok_or("a word")?;
+        assert_eq!(rt; fault.name(), name);
+    }
+    let unknown = Err(AllFault::Form(FormFault::Prefix));
     assert_eq!(rt;
-        read_in_all("urn:epc:tag:usdod-96:3.2I194.1", Form::Tag, 0, None),
-        Err(code)
+        read_in_all("(8004)06141415678", Form::Element, 3, None),
+        unknown
     );
-    assert_eq!(rt; code.name(), "Code");
-    let hex = AllFault::Form(FormFault::Hex);
-    assert_eq!(rt; read_in_all("30", Form::Hex, 0, None), Err(hex));
-    assert_eq!(rt; hex.name(), "Hex");
     Ok(())
 }

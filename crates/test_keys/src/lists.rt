@@ -93,6 +93,9 @@ fn digits_by_table(rt: HostRuntime) -> Result<(), Fail> {
         ("gln 4012345123456", None),
         ("urn:epc:id:sgtin:0614141.812345.6789", None),
         ("(01)8061414112345", None),
+        ("(8004)06141415678", Some(7)),
+        ("cpi 0600000198765 12345", Some(11)),
+        ("gcn 4012345678901 04711", None),
     ];
     for (text, digits) in rows {
         assert_eq!(rt; company.digits_of(text), digits);
