@@ -78,9 +78,7 @@ fn serve_next(
     ensures { MayServeGeneral answers.pairs.items script core result }
 {
     let stream = clients.next()?;
-    Some(serve_stream(
-        alloc, &stream, clients, core, script, answers,
-    ))
+    Some(serve_stream(alloc, &stream, clients, core, script, answers))
 }
 
 /// Serves clients of a listener one after another by the script from its beginning, each as a new

@@ -32,7 +32,7 @@ fn answered(rt: &HostRuntime, sent: &[u8]) -> Result<Vec<u8>, Fail> {
     let Some((outcome, _)) = served else {
         return Err(Fail::from("no client"));
     };
-    assert!(rt; outcome == Ok(()));
+    outcome?;
     let mut said = Vec::new(alloc);
     client.read_to_end(&mut said)?;
     Ok(said)
