@@ -2,7 +2,7 @@
 
 use crate::commands::CommandRow;
 
-pub static EPC_ROWS: [CommandRow; 24] = [
+pub static EPC_ROWS: [CommandRow; 25] = [
     (
         &["epc", "3003A3529440000000000000"],
         b"",
@@ -164,7 +164,8 @@ key gtin 80614141123458 6789\n",
         ],
         b"",
         0,
-        b"tag urn:epc:tag:giai-96:3.0614141.5678\nhex 3474257BF40000000000162E\n",
+        b"tag urn:epc:tag:giai-96:3.0614141.5678\npure urn:epc:id:giai:0614141.5678\nelement (8004)06141415678\n\
+link https://id.gs1.org/8004/06141415678\nhex 3474257BF40000000000162E\nkey giai 06141415678\n",
         b"",
     ),
     (
@@ -178,7 +179,8 @@ key gtin 80614141123458 6789\n",
         ],
         b"",
         0,
-        b"{\"tag\":\"urn:epc:tag:usdod-96:3.2S194.12345678901\",\"hex\":\"2F32032533139342DFDC1C35\"}\n",
+        b"{\"tag\":\"urn:epc:tag:usdod-96:3.2S194.12345678901\",\"pure\":\"urn:epc:id:usdod:2S194.12345678901\",\
+\"hex\":\"2F32032533139342DFDC1C35\"}\n",
         b"",
     ),
     (
@@ -187,12 +189,31 @@ key gtin 80614141123458 6789\n",
             "--schemes",
             "all",
             "--to",
-            "pure",
+            "key",
             "2F32032533139342DFDC1C35",
         ],
         b"",
         1,
         b"! NoKey\n",
+        b"",
+    ),
+    (
+        &[
+            "epc",
+            "--schemes",
+            "all",
+            "--list",
+            "--to",
+            "hex",
+            "--prefix-digits",
+            "7",
+            "--filter",
+            "3",
+        ],
+        b"urn:epc:id:usdod:2S194.12345678901\n(8017)061414112345678902\ncpi 061414198765 12345\n\
+(8017)061414112345678903\nurn:epc:id:usdod:2I194.1\n",
+        1,
+        b"2F32032533139342DFDC1C35\n2E74257BF4499602D2000000\n3C74257BF400C0E680003039\n! Check 2\n! Code\n",
         b"",
     ),
     (
@@ -229,7 +250,7 @@ urn:epc:tag:sgtin-96:3.0614141.812345.6789\n! Hex\n",
         ],
         b"E20000000000000000000001\n3474257BF40000000000162E\n",
         1,
-        b"{\"refused\":\"NoEpc\"}\n{\"refused\":\"NoKey\"}\n",
+        b"{\"refused\":\"NoEpc\"}\n{\"pure\":\"urn:epc:id:giai:0614141.5678\"}\n",
         b"",
     ),
     (
