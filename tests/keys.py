@@ -2,7 +2,8 @@
 """Compares the keys that `epc --list` makes of random tag URIs with what Debian's python3-stdnum finds in them: their check digits, and the
 values of their element strings. Each key is also read back to the word of its tag URI, some are answered as objects of JSON, those of a
 listing that `show --keys` prints are compared and read back by `encode --keys`, and those of a simulated reader's tags by `inventory --keys`, also
-of further schemes with `--schemes all`. Random words of USDoD-96 and their tag URIs are compared with those that are made of the layout here, by `epc --schemes all`.
+of further schemes with `--schemes all`. With `epc --schemes all` the forms of random tag URIs of GIAI-96, GSRNP-96, SGCN-96 and CPI-96 are compared in
+the same way, and random words of USDoD-96 and their forms with those that are made of the layout here.
 
 usage: tests/keys.py [PROGRAM]
 
@@ -12,6 +13,7 @@ import json
 import random
 import subprocess
 import sys
+import tempfile
 
 from parts.counting import finish_results
 from parts.repository import program_given
@@ -20,7 +22,7 @@ from parts.repository import program_given
 EACH = 300
 # How many of them are answered as objects of JSON, for each length of the company prefix.
 OBJECTS = 3
-LEAST = 6 * EACH * 3 + 6 * 7 * (OBJECTS * 2 + 4) + 4 * 7 * 6 + 2 * 7 * 2 + EACH * 7
+LEAST = 6 * EACH * 3 + 6 * 7 * (OBJECTS * 2 + 4) + 4 * 7 * 6 + 2 * 7 * 2 + 4 * EACH * 9 + EACH * 8
 # The names of the keys of those schemes.
 NAMES = {"sgtin": "gtin", "sscc": "sscc", "sgln": "gln", "grai": "grai", "gdti": "gdti", "gsrn": "gsrn"}
 # The digits of company prefix and reference together, the digits of the reference that come first in the key, the application identifier and
@@ -36,7 +38,12 @@ SCHEMES = {
 # The further schemes with keys: the key's name, how many digits company prefix and reference have together, or None where a reference has as
 # many as it needs, and whether a check digit follows (TDS 1.13, sections 7 and 14).
 FURTHER = {"giai": ("giai", None, False), "gsrnp": ("gsrnp", 17, True), "sgcn": ("gcn", 12, True), "cpi": ("cpi", None, False)}
+# The bits of the reference of GIAI-96, by the digits of the company prefix from six on (TDS 1.13, section 14).
+ASSET_BITS = (62, 58, 55, 52, 48, 45, 42)
+# The options for the set of all schemes.
 ALL_SCHEMES = ("--schemes", "all")
+# What Debian's Python finds a key of a further scheme under: its application identifier.
+IDENTIFIERS = {"giai": "8004", "gsrnp": "8017", "sgcn": "255", "cpi": "8010"}
 # The characters of a code of USDoD-96.
 CODE = "0123456789ABCDEFGHJKLMNPQRSTUVWXYZ"
 # What Debian's Python says of lines: a check digit for digits, and the values of an element string.
@@ -149,7 +156,7 @@ def totals(tags):
 def further_tags(scheme, company_digits):
     """Yields random tag URIs of a further scheme, and for each the digits of its key before a check digit, and its serial number."""
     _, count, _ = FURTHER[scheme]
-    most = 15 - company_digits if scheme == "cpi" else 12  # (so many digits are below each bound of the layout)
+    most = 15 - company_digits if scheme == "cpi" else 12  # (numbers of that many digits are below each bound of the layout)
     for _ in range(EACH // 7 + 1):
         company = digits(company_digits)
         reference = digits(count - company_digits) if count else str(random.randrange(10 ** random.randint(1, most)))
@@ -208,7 +215,7 @@ def further_inventories(program, scheme, tags, keys):
     yield f"an inventory of {scheme} among the seven schemes", inventory(program, texts) == [*wanted, *totals(tags)]
 
 
-def further(program):
+def further_labels(program):
     """Yields whether the keys of further schemes are those of their tag URIs, in listings and in inventories."""
     for scheme in FURTHER:
         for company_digits in range(6, 13):
@@ -219,14 +226,78 @@ def further(program):
             yield from further_inventories(program, scheme, tags, keys)
 
 
+def further_parts(scheme, company_digits):
+    """Returns a random company prefix, reference and, if the scheme has one, serial number of a further scheme."""
+    company = digits(company_digits)
+    if scheme == "giai":
+        return company, str(random.randrange(2 ** ASSET_BITS[company_digits - 6])), None
+    if scheme == "gsrnp":
+        return company, digits(17 - company_digits), None
+    if scheme == "sgcn":
+        return company, digits(12 - company_digits), digits(random.randrange(1, 13))
+    return company, str(random.randrange(10 ** (15 - company_digits))), str(random.randrange(2**31))
+
+
+def further_forms(scheme, parts, digit):
+    """Returns pure identity, element string, link and key of an EPC of a further scheme, by its parts and its check digit."""
+    company, reference, serial = parts
+    pure = f"urn:epc:id:{scheme}:{'.'.join(part for part in parts if part is not None)}"
+    front, link = company + reference, f"https://id.gs1.org/{IDENTIFIERS[scheme]}/"
+    start = f"({IDENTIFIERS[scheme]})"
+    if scheme == "giai":
+        return pure, start + front, link + front, f"giai {front}"
+    if scheme == "gsrnp":
+        return pure, start + front + digit, link + front + digit, f"gsrnp {front}{digit}"
+    if scheme == "sgcn":
+        return pure, start + front + digit + serial, link + front + digit + serial, f"gcn {front}{digit} {serial}"
+    return pure, f"{start}{front}(8011){serial}", f"{link}{front}/8011/{serial}", f"cpi {front} {serial}"
+
+
+def further_texts(program, scheme, company_digits):
+    """Yields whether the forms of random EPCs of a further scheme are those that their parts and the judge say, and are read back."""
+    unsaid = ("--filter", "3", "--prefix-digits", str(company_digits), *ALL_SCHEMES)
+    rows = [further_parts(scheme, company_digits) for _ in range(EACH // 7 + 1)]
+    tags = [f"urn:epc:tag:{scheme}-96:3.{'.'.join(part for part in parts if part is not None)}" for parts in rows]
+    words = answers(program, tags, "--to", "hex", *ALL_SCHEMES)
+    found = {form: answers(program, words, "--to", form, *ALL_SCHEMES) for form in ("pure", "element", "link", "key")}
+    # (the judge reads digits that are not divided as one value)
+    told = judged([(company + reference, element.partition("(8011)")[0]) for (company, reference, _), element in zip(rows, found["element"])])
+    wanted = [further_forms(scheme, parts, digit) for parts, (digit, _) in zip(rows, told)]
+    for at, form in enumerate(found):
+        for word, texts, text, back in zip(words, wanted, found[form], answers(program, found[form], "--to", "hex", *unsaid)):
+            yield f"the form {form} of {word}: {text}", text == texts[at]
+            yield f"the word of {text}: {back}", back == word
+    for element, (_, values) in zip(found["element"], told):
+        value = element.partition(")")[2].partition("(8011)")[0]
+        yield f"the values of {element}: {values}", values == {IDENTIFIERS[scheme]: value}
+    forms = ("tag", "pure", "element", "link", "hex", "key")
+    for tag, texts, word, line in zip(tags, wanted, words, answers(program, [texts[3] for texts in wanted], "--json", *unsaid)):
+        yield f"the object of {texts[3]}: {line}", json.loads(line) == dict(zip(forms, (tag, *texts[:3], word, texts[3])))
+    done = run(program, "epc", "--forms", *unsaid, wanted[0][1], input=b"")
+    lines = zip(forms, (tags[0], *wanted[0][:3], words[0], wanted[0][3]))
+    yield f"the forms of {wanted[0][1]}", done.stdout.decode() == "".join(f"{form} {text}\n" for form, text in lines)
+    if scheme in ("gsrnp", "sgcn"):
+        end = len(f"({IDENTIFIERS[scheme]})") + len("".join(rows[0][:2]))
+        wrong = wanted[0][1][:end] + str((int(told[0][0]) + 1) % 10) + wanted[0][1][end + 1 :]
+        yield f"a wrong key {wrong}", answers(program, [wrong], "--to", "hex", *unsaid) == [f"! Check {told[0][0]}"]
+    with tempfile.NamedTemporaryFile("w") as table:
+        table.write(f"{rows[0][0]} {company_digits}\n")
+        table.flush()
+        by_table = answers(program, [wanted[0][1]], "--to", "hex", "--filter", "3", "--prefixes", table.name, *ALL_SCHEMES)
+    yield f"the word of {wanted[0][1]} by a table: {by_table}", by_table == words[:1]
+    if company_digits == 7:
+        unknown = answers(program, [wanted[0][1]], "--to", "hex", *ALL_SCHEMES)
+        yield f"a key of which it is not known how long its company prefix is: {unknown}", unknown == ["! Prefix"]
+
+
 def supplier_word(value, six, serial):
     """Returns the digits of the word of USDoD-96 that a filter value, six characters and a serial number make."""
     return f"{0x2F << 88 | value << 84 | int.from_bytes(six.encode('latin-1'), 'big') << 36 | serial:024X}"
 
 
 def suppliers(program):
-    """Yields whether words of USDoD-96 are those of their tag URIs, have no other form than these, and fail at the first wrong character of a
-    code, and whether a text with such a code is refused."""
+    """Yields whether words of USDoD-96 are those of their tag URIs and pure identities, have no key, and fail at the first wrong character of
+    a code, and whether a text with such a code is refused."""
     named, asked, wrong = [], [], []
     for _ in range(EACH):
         value, serial = random.randrange(16), random.choice([0, 2**36 - 1, random.randrange(2**36)])
@@ -238,22 +309,27 @@ def suppliers(program):
         asked.append((supplier_word(value, six[:place] + other + six[place + 1 :], serial), 12 + 8 * place))
         character = random.choice("IOabz-")
         wrong.append(f"urn:epc:tag:usdod-96:{value}.{code[:2]}{character}{code[3:]}.{serial}")
-    texts, words, all_schemes = [text for text, _ in named], [word for _, word in named], ("--schemes", "all")
-    rows = zip(texts, words, answers(program, texts, "--to", "hex", *all_schemes), answers(program, words, "--to", "tag", *all_schemes))
+    texts, words = [text for text, _ in named], [word for _, word in named]
+    pure = ["urn:epc:id:usdod:" + text.partition(":usdod-96:")[2].partition(".")[2] for text in texts]
+    rows = zip(texts, words, answers(program, texts, "--to", "hex", *ALL_SCHEMES), answers(program, words, "--to", "tag", *ALL_SCHEMES))
     for text, word, found, back in rows:
         yield f"the word of {text}: {found}", found == word
         yield f"the text of {word}: {back}", back == text
-    for form in ("pure", "key"):
-        for word, found in zip(words, answers(program, words, "--to", form, *all_schemes)):
-            yield f"the form {form} of {word}: {found}", found == "! NoKey"
-    for text, word, found in zip(texts, words, answers(program, texts, "--json", *all_schemes)):
-        yield f"the forms of {text}: {found}", json.loads(found) == {"tag": text, "hex": word}
-    for (word, bit), found in zip(asked, answers(program, [word for word, _ in asked], "--to", "tag", *all_schemes)):
+    for word, found in zip(words, answers(program, words, "--to", "key", *ALL_SCHEMES)):
+        yield f"the form key of {word}: {found}", found == "! NoKey"
+    for word, text, found in zip(words, pure, answers(program, words, "--to", "pure", *ALL_SCHEMES)):
+        yield f"the form pure of {word}: {found}", found == text
+    # (a pure identity is read with a filter value of three bits)
+    for word, text, found in zip(words, pure, answers(program, pure, "--to", "hex", "--filter", "5", *ALL_SCHEMES)):
+        yield f"the word of {text}: {found}", found == f"2F5{word[3:]}"
+    for text, other, word, found in zip(texts, pure, words, answers(program, texts, "--json", *ALL_SCHEMES)):
+        yield f"the forms of {text}: {found}", json.loads(found) == {"tag": text, "pure": other, "hex": word}
+    for (word, bit), found in zip(asked, answers(program, [word for word, _ in asked], "--to", "tag", *ALL_SCHEMES)):
         yield f"the fault of {word}: {found}", found == f"urn:epc:raw:96.x{word}\tCode {bit}"
-    for text, found in zip(wrong, answers(program, wrong, "--to", "hex", *all_schemes)):
+    for text, found in zip(wrong, answers(program, wrong, "--to", "hex", *ALL_SCHEMES)):
         yield f"a wrong code in {text}: {found}", found == "! Code"
-    done = run(program, "epc", "--forms", *all_schemes, words[0], input=b"")
-    yield f"the forms of {words[0]}", done.stdout.decode() == f"tag {texts[0]}\nhex {words[0]}\n"
+    done = run(program, "epc", "--forms", *ALL_SCHEMES, words[0], input=b"")
+    yield f"the forms of {words[0]}", done.stdout.decode() == f"tag {texts[0]}\npure {pure[0]}\nhex {words[0]}\n"
 
 
 def run(program, *words, input):
@@ -280,7 +356,10 @@ def checks(program):
                 yield f"the values of {element}: {values_told}", not values_told or values_told == values
                 yield f"the word of {element}", word == back
             yield from objects(program, company_digits, elements, told)
-    yield from further(program)
+    yield from further_labels(program)
+    for scheme in IDENTIFIERS:
+        for company_digits in range(6, 13):
+            yield from further_texts(program, scheme, company_digits)
     yield from suppliers(program)
 
 
