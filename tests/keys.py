@@ -1,9 +1,9 @@
 #!/usr/bin/env python3
 """Compares the keys that `epc --list` makes of random tag URIs with what Debian's python3-stdnum finds in them: their check digits, and the
 values of their element strings. Each key is also read back to the word of its tag URI, some are answered as objects of JSON, those of a
-listing that `show --keys` prints are compared and read back by `encode --keys`, and those of a simulated reader's tags by `inventory --keys`, also
-of further schemes with `--schemes all`. With `epc --schemes all` the forms of random tag URIs of GIAI-96, GSRNP-96, SGCN-96 and CPI-96 are compared in
-the same way, and random words of USDoD-96 and their forms with those that are made of the layout here.
+listing that `show --keys` prints are compared and read back by `encode --keys`, and those of a simulated reader's tags by `inventory --keys`. With
+`--schemes all` the forms of random tag URIs of GIAI-96, GSRNP-96, SGCN-96 and CPI-96 are compared in the same way, in listings and inventories
+too, and random words of USDoD-96 and their forms with those that are made of the layout here.
 
 usage: tests/keys.py [PROGRAM]
 
@@ -22,7 +22,7 @@ from parts.repository import program_given
 EACH = 300
 # How many of them are answered as objects of JSON, for each length of the company prefix.
 OBJECTS = 3
-LEAST = 6 * EACH * 3 + 6 * 7 * (OBJECTS * 2 + 4) + 4 * 7 * 6 + 2 * 7 * 2 + 4 * EACH * 9 + EACH * 8
+LEAST = 6 * EACH * 3 + 6 * 7 * (OBJECTS * 2 + 4) + 4 * EACH * 9 + 4 * 7 * 6 + EACH * 8
 # The names of the keys of those schemes.
 NAMES = {"sgtin": "gtin", "sscc": "sscc", "sgln": "gln", "grai": "grai", "gdti": "gdti", "gsrn": "gsrn"}
 # The digits of company prefix and reference together, the digits of the reference that come first in the key, the application identifier and
@@ -35,9 +35,6 @@ SCHEMES = {
     "gdti": (12, 0, "(253)", ""),
     "gsrn": (17, 0, "(8018)", None),
 }
-# The further schemes with keys: the key's name, how many digits company prefix and reference have together, or None where a reference has as
-# many as it needs, and whether a check digit follows (TDS 1.13, sections 7 and 14).
-FURTHER = {"giai": ("giai", None, False), "gsrnp": ("gsrnp", 17, True), "sgcn": ("gcn", 12, True), "cpi": ("cpi", None, False)}
 # The bits of the reference of GIAI-96, by the digits of the company prefix from six on (TDS 1.13, section 14).
 ASSET_BITS = (62, 58, 55, 52, 48, 45, 42)
 # The options for the set of all schemes.
@@ -138,6 +135,11 @@ def inventory(program, texts, *options):
     return [list(json.loads(line).items()) for line in lines]
 
 
+def totals(tags):
+    """Returns the members of the last objects of an inventory with one report of these tags."""
+    return [[("report", len(tags))], [("tags", len(tags)), ("reports", 1)]]
+
+
 def inventories(program, scheme, tags, told):
     """Yields whether `inventory --json --keys` prints the keys as the last members of the tags that a simulated reader sees."""
     wanted = [
@@ -146,84 +148,6 @@ def inventories(program, scheme, tags, told):
     ]
     seen = inventory(program, [tag for tag, _, _ in tags])
     yield f"the keys of an inventory of {scheme}", seen == [*wanted, *totals(tags)]
-
-
-def totals(tags):
-    """Returns the members of the last objects of an inventory with one report of these tags."""
-    return [[("report", len(tags))], [("tags", len(tags)), ("reports", 1)]]
-
-
-def further_tags(scheme, company_digits):
-    """Yields random tag URIs of a further scheme, and for each the digits of its key before a check digit, and its serial number."""
-    _, count, _ = FURTHER[scheme]
-    most = 15 - company_digits if scheme == "cpi" else 12  # (numbers of that many digits are below each bound of the layout)
-    for _ in range(EACH // 7 + 1):
-        company = digits(company_digits)
-        reference = digits(count - company_digits) if count else str(random.randrange(10 ** random.randint(1, most)))
-        number = {"sgcn": digits(random.randint(1, 12)), "cpi": str(random.randrange(2**31))}.get(scheme)
-        parts = [str(random.randrange(8)), company, reference, *([number] if number else [])]
-        yield f"urn:epc:tag:{scheme}-96:{'.'.join(parts)}", company + reference, number
-
-
-def further_keys(scheme, tags):
-    """Returns the name, the number and the serial number of the key of each tag URI of a further scheme; the judge gives the check digits."""
-    name, _, is_checked = FURTHER[scheme]
-    told = judged([(front, "") for _, front, _ in tags])
-    return [(name, front + (digit if is_checked else ""), number) for (_, front, number), (digit, _) in zip(tags, told)]
-
-
-def further_elements(program, scheme, tags, keys):
-    """Yields whether the element strings of GIAI-96 and of GSRNP-96 are those of the keys, and whether the judge finds the keys in them."""
-    identifier = {"giai": "8004", "gsrnp": "8017"}.get(scheme)
-    if identifier:
-        numbers = [number for _, number, _ in keys]
-        elements = answers(program, [tag for tag, _, _ in tags], "--to", "element", *ALL_SCHEMES)
-        yield f"the element strings of {scheme}", elements == [f"({identifier}){number}" for number in numbers]
-        values = [found for _, found in judged([("0", element) for element in elements])]
-        yield f"the values of the element strings of {scheme}", values == [{identifier: number} for number in numbers]
-
-
-def further_listings(program, scheme, tags, keys):
-    """Yields whether `show --keys --schemes all` puts the keys of a further scheme after the EPCs of a report, and `show --keys` none, and
-    whether `encode --keys --schemes all` reads that, and refuses another key."""
-    head, texts = "0 RO_ACCESS_REPORT 1 1\n", [tag for tag, _, _ in tags]
-    labels = [" ".join(filter(None, key)) for key in keys]
-    listing = head + "".join(f"1 TagReportData\n2 EPC-96 {text}\n" for text in texts)
-    labelled = head + "".join(f"1 TagReportData\n2 EPC-96 {text}\t{label}\n" for text, label in zip(texts, labels))
-    stream = run(program, "encode", *ALL_SCHEMES, input=listing.encode()).stdout
-    shown = run(program, "show", "--keys", *ALL_SCHEMES, input=stream).stdout.decode()
-    yield f"the keys of a listing of {scheme}", shown == labelled
-    yield f"a listing of {scheme} among the seven schemes", b"\t" not in run(program, "show", "--keys", input=stream).stdout
-    back = run(program, "encode", "--keys", *ALL_SCHEMES, input=labelled.encode()).stdout
-    yield f"the stream of a listing of {scheme} with keys", (back, back[:2]) == (stream, b"\x04\x3d")
-    wrong = labelled.replace(labels[0], labels[0][:-1] + str((int(labels[0][-1]) + 1) % 10), 1)
-    done = run(program, "encode", "--keys", *ALL_SCHEMES, input=wrong.encode())
-    yield f"a wrong key in a listing of {scheme}: {done.stderr}", (done.stdout, done.stderr, done.returncode) == (b"", b"llrp: line 3: Epc Key\n", 1)
-
-
-def further_inventories(program, scheme, tags, keys):
-    """Yields whether `inventory --json --keys --schemes all` prints the keys of a further scheme as the last members of the tags that a simulated
-    reader sees, and without `--schemes all` none."""
-    words = answers(program, [tag for tag, _, _ in tags], "--to", "hex", *ALL_SCHEMES)
-    texts = [f"urn:epc:raw:96.x{word}" for word in words]
-    wanted = [
-        [("epc", tag), ("antenna", 1), ("rssi", -60), (name, number), *([("serial", serial)] if serial else [])]
-        for (tag, _, _), (name, number, serial) in zip(tags, keys)
-    ]
-    yield f"the keys of an inventory of {scheme}", inventory(program, texts, *ALL_SCHEMES) == [*wanted, *totals(tags)]
-    wanted = [[("epc", text), ("antenna", 1), ("rssi", -60)] for text in texts]
-    yield f"an inventory of {scheme} among the seven schemes", inventory(program, texts) == [*wanted, *totals(tags)]
-
-
-def further_labels(program):
-    """Yields whether the keys of further schemes are those of their tag URIs, in listings and in inventories."""
-    for scheme in FURTHER:
-        for company_digits in range(6, 13):
-            tags = list(further_tags(scheme, company_digits))
-            keys = further_keys(scheme, tags)
-            yield from further_elements(program, scheme, tags, keys)
-            yield from further_listings(program, scheme, tags, keys)
-            yield from further_inventories(program, scheme, tags, keys)
 
 
 def further_parts(scheme, company_digits):
@@ -253,7 +177,7 @@ def further_forms(scheme, parts, digit):
     return pure, f"{start}{front}(8011){serial}", f"{link}{front}/8011/{serial}", f"cpi {front} {serial}"
 
 
-def further_texts(program, scheme, company_digits):
+def further(program, scheme, company_digits):
     """Yields whether the forms of random EPCs of a further scheme are those that their parts and the judge say, and are read back."""
     unsaid = ("--filter", "3", "--prefix-digits", str(company_digits), *ALL_SCHEMES)
     rows = [further_parts(scheme, company_digits) for _ in range(EACH // 7 + 1)]
@@ -288,6 +212,47 @@ def further_texts(program, scheme, company_digits):
     if company_digits == 7:
         unknown = answers(program, [wanted[0][1]], "--to", "hex", *ALL_SCHEMES)
         yield f"a key of which it is not known how long its company prefix is: {unknown}", unknown == ["! Prefix"]
+
+
+def further_listings(program, scheme, tags, keys):
+    """Yields whether `show --keys --schemes all` puts the keys of a further scheme after the EPCs of a report, and `show --keys` none, and
+    whether `encode --keys --schemes all` reads that, and refuses another key."""
+    head = "0 RO_ACCESS_REPORT 1 1\n"
+    listing = head + "".join(f"1 TagReportData\n2 EPC-96 {tag}\n" for tag in tags)
+    labelled = head + "".join(f"1 TagReportData\n2 EPC-96 {tag}\t{key}\n" for tag, key in zip(tags, keys))
+    stream = run(program, "encode", *ALL_SCHEMES, input=listing.encode()).stdout
+    shown = run(program, "show", "--keys", *ALL_SCHEMES, input=stream).stdout.decode()
+    yield f"the keys of a listing of {scheme}", shown == labelled
+    yield f"a listing of {scheme} among the seven schemes", b"\t" not in run(program, "show", "--keys", input=stream).stdout
+    back = run(program, "encode", "--keys", *ALL_SCHEMES, input=labelled.encode()).stdout
+    yield f"the stream of a listing of {scheme} with keys", (back, back[:2]) == (stream, b"\x04\x3d")
+    wrong = labelled.replace(keys[0], keys[0][:-1] + str((int(keys[0][-1]) + 1) % 10), 1)
+    done = run(program, "encode", "--keys", *ALL_SCHEMES, input=wrong.encode())
+    yield f"a wrong key in a listing of {scheme}: {done.stderr}", (done.stdout, done.stderr, done.returncode) == (b"", b"llrp: line 3: Epc Key\n", 1)
+
+
+def further_inventories(program, scheme, tags, keys):
+    """Yields whether `inventory --json --keys --schemes all` prints the keys of a further scheme as the last members of the tags that a simulated
+    reader sees, and without `--schemes all` none."""
+    texts = [f"urn:epc:raw:96.x{word}" for word in answers(program, tags, "--to", "hex", *ALL_SCHEMES)]
+    parts = [key.split(" ") for key in keys]
+    wanted = [
+        [("epc", tag), ("antenna", 1), ("rssi", -60), (name, number), *(("serial", it) for it in serial)]
+        for tag, (name, number, *serial) in zip(tags, parts)
+    ]
+    yield f"the keys of an inventory of {scheme}", inventory(program, texts, *ALL_SCHEMES) == [*wanted, *totals(tags)]
+    wanted = [[("epc", text), ("antenna", 1), ("rssi", -60)] for text in texts]
+    yield f"an inventory of {scheme} among the seven schemes", inventory(program, texts) == [*wanted, *totals(tags)]
+
+
+def further_labels(program, scheme, company_digits):
+    """Yields whether listings and inventories have the keys of random EPCs of a further scheme, as their parts and the judge say."""
+    rows = [further_parts(scheme, company_digits) for _ in range(EACH // 7 + 1)]
+    tags = [f"urn:epc:tag:{scheme}-96:3.{'.'.join(part for part in parts if part is not None)}" for parts in rows]
+    told = judged([(company + reference, "") for company, reference, _ in rows])
+    keys = [further_forms(scheme, parts, digit)[3] for parts, (digit, _) in zip(rows, told)]
+    yield from further_listings(program, scheme, tags, keys)
+    yield from further_inventories(program, scheme, tags, keys)
 
 
 def supplier_word(value, six, serial):
@@ -356,10 +321,10 @@ def checks(program):
                 yield f"the values of {element}: {values_told}", not values_told or values_told == values
                 yield f"the word of {element}", word == back
             yield from objects(program, company_digits, elements, told)
-    yield from further_labels(program)
     for scheme in IDENTIFIERS:
         for company_digits in range(6, 13):
-            yield from further_texts(program, scheme, company_digits)
+            yield from further(program, scheme, company_digits)
+            yield from further_labels(program, scheme, company_digits)
     yield from suppliers(program)
 
 
