@@ -305,7 +305,7 @@ def checks_of_limits(program):
 
 def checks_of_figures():
     """Yields whether README.md counts the crates of the program and the functions for C as they are."""
-    readme, words = text_of("README.md"), {10: "ten", 12: "twelve", 19: "nineteen", 20: "twenty", 21: "twenty-one", 22: "twenty-two", 23: "twenty-three", 25: "twenty-five", 29: "twenty-nine"}
+    readme, words = text_of("README.md"), {10: "ten", 12: "twelve", 19: "nineteen", 20: "twenty", 21: "twenty-one", 22: "twenty-two", 23: "twenty-three", 25: "twenty-five", 31: "thirty-one"}
     sys.path.insert(0, TOP)
     import build  # (the script that knows which crates are below another)
 
