@@ -162,9 +162,9 @@ Options:
       --bind <ADDRESS>  The address to listen on; without it 127.0.0.1
       --clients <N>     How many clients to serve, one after another; without it 1, and 0 for no end
       --clock <CLOCK>   Let time pass by itself: real, or real*N for N times as fast
-      --answers <FILE>  Answer by FILE what the reader does not know; with --clock
+      --answers <FILE>  Answer by FILE what the reader does not know; with --all or --clock
       --ready           Say on standard error where it listens, once it does
-      --keep            Keep the ROSpecs from client to client; with --clock
+      --keep            Keep the ROSpecs from client to client; with --all or --clock
   -h, --help            Print help
 
 Reads a script of what the reader's antennas see on standard input, to its end. Then it listens on
@@ -175,7 +175,12 @@ Reads a script of what the reader's antennas see on standard input, to its end. 
 
 With --all it also answers GET_READER_CAPABILITIES, GET_READER_CONFIG and GET_SUPPORTED_VERSION, with
 which general clients begin, and DELETE_ACCESSSPEC, ENABLE_ACCESSSPEC, DISABLE_ACCESSSPEC and
-GET_ACCESSSPECS, as a reader that has no AccessSpecs. A script does not count these.
+GET_ACCESSSPECS, as a reader that has no AccessSpecs. A script does not count these. A connection begins
+in version 1, and SET_PROTOCOL_VERSION changes it; a message of another version is refused. Of messages
+with parameters of all of LLRP 1.1 the reader takes what it has. --answers FILE answers messages that
+are not in docs/tables.md: a line ? FORM, and the messages to answer with, as show --all lists them. FORM
+is a request's line there; a word * stands for any. With --keep a client finds the ROSpecs that the one
+before it left, of which none is active.
 
 With --clients N it serves N clients one after another, each as a new reader by the script from its
 beginning; the exit status is the greatest of theirs. With --ready the line
@@ -185,7 +190,7 @@ stands on standard error as soon as a client can connect, where PORT is a free o
 machines can reach.
 
 With --clock real time passes by itself, and with real*N N times as fast: KEEPALIVEs and the ends of
-ROSpecs come when they are due, and the requests of --all are answered. A script may then have lines
+ROSpecs come when they are due, and the client is served as by --all. A script may then have lines
 with a moment too, where TIME is such as 500ms or 2s:
   accepted+TIME WHAT                 this long after the connection was accepted
   started+TIME WHAT                  this long after a ROSpec first became active
@@ -203,11 +208,6 @@ WHAT is one of these:
   cut N                              of its next message it sends N octets, and closes the connection
   status N KIND TEXT                 its next message of that kind has the status N and this text
   close                              it closes the connection
-
-A connection begins in version 1, and SET_PROTOCOL_VERSION changes it; a message of another version is
-refused. --answers FILE answers messages that are not in docs/tables.md: a line ? FORM, and the messages
-to answer with, as show --all lists them. FORM is a request's line there; a word * stands for any.
-With --keep a client finds the ROSpecs that the one before it left, of which none is active.
 
 Example:
   $ printf '2 5 tick\\n' | llrp sim 5084
