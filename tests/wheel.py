@@ -107,7 +107,7 @@ def checks_of_documents(installed):
     runs_in_python(snippet("README.md", "of it with the library inside:"), names)
     yield "the Python of README.md", names["received"] == b"\x08" and names["sent"].hex() == "04480000000a00000007"
     found = runs_in_python(snippet("docs/library.md", "Then, in Python:"), {})
-    yield "the Python of docs/library.md", len(found) == 10
+    yield "the Python of docs/library.md", len(found) == 11
     for value, comment in found:
         yield f"docs/library.md: {comment}", value == eval(comment)
 
