@@ -2,6 +2,8 @@
 
 use std::test::Fail;
 use tag_bits::Word;
+use tag_keys::{KeyFault, Spelling};
+use tag_scheme_keys::{parse_key_in, print_key_in};
 use tag_schemes::{
     SchemeFault, fault_in_all, numbers_of, supplier_of, text_in_all, word_in_all, word_of,
     word_of_supplier,
@@ -362,6 +364,25 @@ fn tag_schemes_texts(word: Word) -> Result<(bool, Word), SchemeFault> {
 fn tag_schemes_example(rt: HostRuntime) -> Result<(), Fail> {
     let asset = Word::new(0x3474257BF40000000000162E).ok_or("no word")?;
     assert_eq!(rt; tag_schemes_texts(asset), Ok((true, asset)));
+    Ok(())
+}
+
+/// Whether the element string of a word's EPC is that of the asset 5678 of company 0614141, and the word that
+/// this one is read as.
+fn tag_scheme_keys_texts(word: Word) -> Result<(bool, Word), KeyFault> {
+    let Some(epc) = numbers_of(word) else {
+        return Ok((false, word));
+    };
+    let text = print_key_in(epc, Spelling::Element);
+    let is_text = text.as_str() == "(8004)06141415678";
+    let epc = parse_key_in("(8004)06141415678", Spelling::Element, 3, 7)?;
+    Ok((is_text, word_of(epc)))
+}
+
+#[test]
+fn tag_scheme_keys_example(rt: HostRuntime) -> Result<(), Fail> {
+    let asset = Word::new(0x3474257BF40000000000162E).ok_or("no word")?;
+    assert_eq!(rt; tag_scheme_keys_texts(asset), Ok((true, asset)));
     Ok(())
 }
 
