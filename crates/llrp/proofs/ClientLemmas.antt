@@ -7,7 +7,7 @@ use Rattle.llrp_listing.specs.declared.outcome.ToolErr.TheVariants.{Memory}
 use Rattle.llrp_endpoints.specs.declared.script.Entry.{Entry}
 use Rattle.llrp_commands.specs.Calls.Command.{Answers, fine_status}
 use Rattle.llrp.specs.Calls.Network.{Concludes, Serves}
-use Rattle.llrp_commands.specs.declared.arguments.sim_words.SimWords.{SimWords}
+use Rattle.llrp_words.specs.declared.arguments.sim_words.SimWords.{SimWords}
 use Rattle.llrp.specs.Calls.Clients.{FailsToSay, IsGreater, IsPortOf, MaySay, SaysReady, ServedClients, ServesClients, ServesThere, listens_on, none, one_more}
 
 -- ---- no write has failed

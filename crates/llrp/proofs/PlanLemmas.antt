@@ -7,7 +7,7 @@ use Rattle.llrp_endpoints.specs.Plan.{Plan}
 use Rattle.llrp_endpoints.specs.Calls.PlanTexts.{IsTaken, ListsRoSpec, given_in}
 use Rattle.llrp_endpoints.specs.Calls.ReadRoSpec.{IsEnough}
 use Rattle.llrp_endpoints.proofs.RoSpecTexts.{read_whole}
-use Rattle.llrp_commands.specs.declared.arguments.PlanWords.{PlanWords}
+use Rattle.llrp_words.specs.declared.arguments.PlanWords.{PlanWords}
 use Rattle.llrp.specs.Calls.Plan.{ReadsPlan, asked_polls, asked_set, with_options}
 
 pub plan_read : (words : PlanWords) (r0 r1 : SourceLog) (text seen : List ℕ) (plan result : Plan) (t : Tree) (set : KindSet) (polls : ℕ) → seen ≡ text → IsEnough r0 r1 text → ListsRoSpec set seen t → IsTaken set t → plan ≡ given_in set t polls words.check

@@ -3,7 +3,6 @@ pub mod Access
 pub mod AccessEnding
 pub mod Ask
 pub mod Clients
-pub mod Ending
 pub mod Farewell
 pub mod GeneralClients
 pub mod Labels

@@ -1,4 +1,3 @@
 -- Words of private functions: no public contract names one.
-pub mod Files
 pub mod GeneralClients
 pub mod Refusals

@@ -7,10 +7,10 @@ ghost use Rattle.llrp_stream.specs.Calls.Device.{CanWrite};
 ghost use Rattle.llrp_stream.specs.Device.{IsFreshSource};
 ghost use Rattle.llrp.specs.Calls.Access.{ListsAsides, ReadsAccess, RefusesAccess, RefusesAsides, Says, answers_access, first_other, is_of, is_on_access, left_after, message_line, message_start, refused_status, status_of, text_of};
 
-use crate::network::FAILED;
 use crate::plan::NoPlan;
 use llrp_commands::{answer, write_refusal};
 use llrp_endpoints::{AsideMessages, Plan};
+use llrp_files::FAILED;
 use llrp_listing::{Refusal, ToolErr, read_all, write_all};
 use llrp_schema::{Kind, KindSet, number};
 use llrp_session::{field, first};
@@ -247,6 +247,3 @@ pub fn refused_status(message: &Message) -> Option<u16>
         None
     }
 }
-
-#[cfg(test)]
-mod tests;

@@ -8,9 +8,10 @@ ghost use Rattle.llrp.specs.Calls.AccessEnding.{AccessesReader, SaysEnding};
 use crate::access_errand::{NoErrand, OperationTexts, errand_of};
 use crate::address::Address;
 use crate::connecting::connect;
-use crate::network::{FAILED, conclude};
+use crate::network::conclude;
 use crate::timed::Timed;
 use llrp_commands::{AccessWords, USAGE, answer, texts_asked};
+use llrp_files::FAILED;
 use llrp_listing::{ToolErr, write_all};
 use llrp_operations::{Ending, Errand, Patience, WordErr, run_access};
 use llrp_stream::{Output, Sink};
@@ -98,6 +99,7 @@ pub fn say_ending<E: Sink>(ending: Ending, errors: &mut E) -> Result<u8, ToolErr
         Ending::Done => Ok(DONE),
         Ending::Undone => say(b"llrp: not done\n", UNDONE, errors),
         Ending::Several => say(b"llrp: several tags\n", UNDONE, errors),
+        Ending::NoEpc => say(b"llrp: no epc\n", UNDONE, errors),
         Ending::NoTag => say(b"llrp: no tag\n", UNDONE, errors),
         Ending::Unknown => say(b"llrp: unknown, read again\n", UNKNOWN, errors),
         Ending::Refused(status) => answer(Err(ToolErr::Peer(status)), errors),

@@ -40,6 +40,8 @@ pub struct OperationTexts<'a> {
 pub struct OwnErrand {
     /// The tag's EPC; of no octets for any tag.
     epc: Vec<u8>,
+    /// The EPC that it is to be given; of no octets where it keeps its own.
+    given: Vec<u8>,
     antenna: u16,
     password: u32,
     /// The operations that are sent: those asked for, and the reads that verify them.
@@ -92,6 +94,7 @@ impl OwnErrand {
         Errand {
             request: self.request(),
             asked: all.split_at(self.asked.min(all.len())).0,
+            given: self.given.as_slice(),
             verifies: words.verify,
             json: words.json,
         }
@@ -136,12 +139,20 @@ fn said(
     }
 }
 
-/// The write of a new EPC.
-fn new_epc(alloc: Global, old: &[u8], uri: &str) -> Result<Operation, NoErrand> {
-    let Ok(word) = word_of_text(uri) else {
-        return Err(NoErrand::Words(NO_URI));
+/// The octets of the EPC that the tag is to be given; none where it keeps its own.
+fn epc_given(alloc: Global, uri: Option<&str>) -> Result<Vec<u8>, NoErrand> {
+    let Some(uri) = uri else {
+        return Ok(Vec::new(alloc));
     };
-    match epc_write(alloc, old, &word.to_bytes()) {
+    match word_of_text(uri) {
+        Ok(word) => Ok(word.to_bytes().to_vec(alloc)?),
+        Err(_) => Err(NoErrand::Words(NO_URI)),
+    }
+}
+
+/// The write of a new EPC.
+fn new_epc(alloc: Global, old: &[u8], epc: &[u8]) -> Result<Operation, NoErrand> {
+    match epc_write(alloc, old, epc) {
         Ok(operation) => Ok(operation),
         Err(_) => Err(NoErrand::Memory),
     }
@@ -151,7 +162,7 @@ fn new_epc(alloc: Global, old: &[u8], uri: &str) -> Result<Operation, NoErrand> 
 fn operations_of(
     alloc: Global,
     old: &[u8],
-    epc: Option<&str>,
+    given: &[u8],
     texts: &OperationTexts<'_>,
 ) -> Result<Vec<Operation>, NoErrand> {
     let mut operations = Vec::new(alloc);
@@ -161,8 +172,8 @@ fn operations_of(
     for text in texts.writes.as_slice() {
         operations.push(said(b"--write <BANK:WORD=HEX>", write_of(alloc, text.as_bytes()))?)?;
     }
-    if let Some(uri) = epc {
-        operations.push(new_epc(alloc, old, uri)?)?;
+    if !given.is_empty() {
+        operations.push(new_epc(alloc, old, given)?)?;
     }
     for text in texts.locks.as_slice() {
         operations.push(said(b"--lock <FIELD=HOW>", lock_of(text.as_bytes()))?)?;
@@ -207,7 +218,8 @@ pub fn errand_of(
 ) -> Result<OwnErrand, NoErrand> {
     let alloc = rt.alloc();
     let epc = epc_of_tag(alloc, words.tag)?;
-    let operations = operations_of(alloc, epc.as_slice(), words.epc, texts)?;
+    let given = epc_given(alloc, words.epc)?;
+    let operations = operations_of(alloc, epc.as_slice(), given.as_slice(), texts)?;
     let asked = operations.len();
     if asked == 0 {
         return Err(NoErrand::Words(NOTHING));
@@ -219,6 +231,7 @@ pub fn errand_of(
     };
     let errand = OwnErrand {
         epc,
+        given,
         antenna: words.antenna.unwrap_or(0),
         password: password_in(rt, words.password_file)?,
         sent,

@@ -45,6 +45,3 @@ pub fn address_of(text: &str) -> Option<Address<'_>> {
         _ => with_own_port(text),
     }
 }
-
-#[cfg(test)]
-mod tests;

@@ -6,10 +6,11 @@ ghost use Rattle.llrp.specs.Calls.Ask.{AsksReader, ReadsNoSteps, ReadsSteps};
 
 use crate::address::Address;
 use crate::connecting::connect;
-use crate::network::{FAILED, conclude};
+use crate::network::conclude;
 use crate::timed::Timed;
 use llrp_ask::{Form, Manner, Step, run_ask, steps_of};
 use llrp_commands::{AskWords, answer};
+use llrp_files::FAILED;
 use llrp_listing::{ToolErr, Verdict, read_all, write_all};
 use llrp_stream::{Input, Output, Sink, Source};
 use llrp_texts::TextErr;

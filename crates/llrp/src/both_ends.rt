@@ -118,6 +118,3 @@ pub fn run_both_ends<
     };
     conclude(outcome, e)
 }
-
-#[cfg(test)]
-mod tests;

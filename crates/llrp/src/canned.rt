@@ -4,9 +4,9 @@ ghost use Rattle.std.specs.Prelude.{IfOk};
 ghost use Rattle.llrp_answers.specs.Calls.Answers.{IsFile};
 ghost use Rattle.llrp_stream.specs.Calls.Device.{CanWrite};
 
-use crate::network::FAILED;
 use llrp_answers::Answers;
 use llrp_commands::{answer, write_refusal};
+use llrp_files::FAILED;
 use llrp_listing::{ToolErr, read_all, write_all};
 use llrp_stream::{Input, Sink};
 use llrp_texts::TextErr;

@@ -156,6 +156,3 @@ impl Source for Until<'_> {
         }
     }
 }
-
-#[cfg(test)]
-mod tests;

@@ -69,6 +69,3 @@ pub fn power_text(alloc: Global, level: u16) -> Result<Text, AllocError> {
     text.push_number((hundredths % 10) as u128)?;
     Ok(text)
 }
-
-#[cfg(test)]
-mod tests;

@@ -3,7 +3,7 @@
 ghost use Rattle.std.specs.Prelude.{◌≡◌, ◌≤◌, [], IfOk, None, is_none, true};
 ghost use Rattle.llrp_schema.specs.declared.kinds.KindSet.TheVariants.{Standard};
 ghost use Rattle.llrp_stream.specs.Calls.Decoding.{StandsIn};
-ghost use Rattle.llrp_commands.specs.Calls.Arguments.{IsLongest};
+ghost use Rattle.llrp_words.specs.Calls.Arguments.{IsLongest};
 ghost use Rattle.llrp_listing.specs.StreamListing.{fault_text};
 
 use crate::access::refused_status;

@@ -163,6 +163,3 @@ pub fn general_sim<N: Net<Listener = TcpListener, Stream = TcpStream>, R: Source
         Err(error) => conclude(Some(Err(error)), e),
     }
 }
-
-#[cfg(test)]
-mod tests;

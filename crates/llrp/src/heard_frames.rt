@@ -395,6 +395,3 @@ impl<'a, W: Sink + Drop> Sink for Asking<'a, W> {
         Ok(n)
     }
 }
-
-#[cfg(test)]
-mod tests;

@@ -1,6 +1,6 @@
 //! The command `inventory`: follows a plan with a reader over TCP.
 
-ghost use Rattle.llrp_commands.specs.Calls.Arguments.{IsLongest};
+ghost use Rattle.llrp_words.specs.Calls.Arguments.{IsLongest};
 ghost use Rattle.llrp.specs.Calls.Labels.{FollowsTold, ReportsTo, RunsLabelled};
 ghost use Rattle.llrp.specs.Calls.Network.{FollowsPlan, RunsPlan};
 ghost use Rattle.llrp_stream.specs.Device.{IsFreshSink};
@@ -168,6 +168,3 @@ pub fn labelled_inventory<
     report.wipe();
     conclude(outcome, e)
 }
-
-#[cfg(test)]
-mod tests;

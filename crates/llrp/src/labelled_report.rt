@@ -95,6 +95,3 @@ impl<W: Write + Drop, T: Write + Drop> Watcher for LabelledReport<W, T> {
         Ok(false)
     }
 }
-
-#[cfg(test)]
-mod tests;

@@ -7,7 +7,7 @@
 
 ghost use Rattle.llrp_stream.specs.Calls.Device.{CanWrite};
 ghost use Rattle.llrp_stream.specs.Device.{IsFreshSink};
-ghost use Rattle.llrp_commands.specs.Calls.Arguments.{IsBounded, IsLongest};
+ghost use Rattle.llrp_words.specs.Calls.Arguments.{IsBounded, IsLongest};
 
 mod access;
 mod access_command;
@@ -22,10 +22,8 @@ mod deadline;
 mod decibels;
 mod farewell;
 mod faults;
-mod files;
 mod general_sim;
 mod heard_frames;
-mod hints;
 mod inventory;
 mod labelled_report;
 mod labels;
@@ -39,11 +37,9 @@ mod network;
 mod noted;
 mod notes;
 mod one_at_a_time;
-mod out_of_memory;
 mod plan;
 mod powered;
 mod powers;
-mod prefixes;
 mod printing;
 mod progress;
 mod refused_words;
@@ -53,7 +49,6 @@ mod sim;
 mod speech;
 mod tag_files;
 mod tag_printer;
-mod terminal;
 mod timed;
 mod watch;
 mod watch_plan;
@@ -62,35 +57,27 @@ mod whole_frames;
 
 use address::address_of;
 use canned::{AnswerText, refuse_answers};
-use files::run_files;
-use hints::Noticing;
 use inventory::Target;
 use labelled_report::LabelledReport;
 use labels::asked_labels;
 use live_clock::rate_of;
 use llrp_commands::{
     AccessWords, AskWords, LabelWords, NetworkCommand, PlanWords, SimWords, StopWords, USAGE,
-    WatchWords, files_asked, network_command, prefixes_file, run_command,
+    WatchWords, network_command,
 };
+use llrp_files::{FAILED, end_without_memory, run_offline, words_of};
 use llrp_listing::{ToolErr, write_all};
 use llrp_stream::{Input, Output, Sink};
-use network::{FAILED, conclude};
+use network::conclude;
 use notes::Notes;
-use out_of_memory::end_without_memory;
 use plan::{open_plan, refuse};
-use prefixes::run_epc_by_file;
 use progress::Progress;
 use refused_words::{
     NO_ADDRESS, NO_CLOCK, label_clash, plan_clash, sim_clash, stop_clash, watch_clash,
 };
-use std::env;
 use std::fs::File;
-use std::io::{ErrorKind, IsTerminal, Stderr};
+use std::io::{IsTerminal, Stderr};
 use std::process::ExitCode;
-use terminal::{say_hint, say_waiting};
-
-/// What is written if an argument is not UTF-8.
-const NOT_UTF8: &[u8] = b"error: invalid UTF-8 was detected in one or more arguments\n";
 
 /// Opens a directory once for each standard stream. If one of these is closed, a directory gets its
 /// descriptor, which the next socket would otherwise get: so reads and writes of that stream fail,
@@ -318,41 +305,15 @@ fn run_network(
 /// `Memory` if memory ran out before the command was known, and `Write` if writing to standard
 /// error failed.
 fn run(rt: &HostRuntime) -> Result<u8, ToolErr> {
-    let alloc = rt.alloc();
-    let mut errors = Output::new(rt.stderr());
-    let arguments = match env::args(rt) {
-        Ok(arguments) => arguments,
-        Err(error) => match error.kind() {
-            ErrorKind::OutOfMemory => return Err(ToolErr::Memory),
-            _ => {
-                write_all(&mut errors, NOT_UTF8)?;
-                return Ok(USAGE);
-            }
-        },
+    let Some(words) = words_of(rt)? else {
+        return Ok(USAGE);
     };
-    let words: Vec<String> = arguments.skip(1).collect(alloc)?;
-    if let Some(path) = prefixes_file(alloc, words.as_slice())? {
-        return run_epc_by_file(rt, words.as_slice(), path);
+    if let Some(status) = run_offline(rt, words.as_slice())? {
+        return Ok(status);
     }
-    let files = files_asked(alloc, words.as_slice())?;
-    if !files.is_empty() {
-        return run_files(rt, words.as_slice(), files.as_slice());
-    }
-    match network_command(alloc, words.as_slice())? {
+    match network_command(rt.alloc(), words.as_slice())? {
         Some(command) => run_network(rt, command, words.as_slice()),
-        None => {
-            say_waiting(rt, words.as_slice())?;
-            let mut input = Noticing::new(Input::new(rt.stdin()));
-            let status = run_command(
-                alloc,
-                words.as_slice(),
-                &mut input,
-                &mut Output::new(rt.stdout()),
-                &mut errors,
-            )?;
-            say_hint(rt, words.as_slice(), status, &input);
-            Ok(status)
-        }
+        None => Ok(USAGE),
     }
 }
 

@@ -88,6 +88,3 @@ impl<W: Write + Drop> Watcher for MessagePrinter<'_, W> {
         Ok(self.deadline.tell(self.rt))
     }
 }
-
-#[cfg(test)]
-mod tests;

@@ -4,14 +4,12 @@ ghost use Rattle.llrp.specs.Calls.Network.{Concludes};
 ghost use Rattle.llrp_stream.specs.Calls.Device.{CanWrite};
 
 use llrp_commands::answer;
+use llrp_files::FAILED;
 use llrp_listing::{ToolErr, write_all};
 use llrp_stream::Sink;
 
 /// The id of the first message that a simulated reader starts itself.
 pub const FIRST_ID: u32 = 1;
-
-/// The exit status if the network, a device or memory failed.
-pub const FAILED: u8 = 3;
 
 /// The exit status of a command that ended like this, after its error, if it has one, was written
 /// to `e` as a line. `None` means that the network failed.

@@ -126,6 +126,3 @@ impl Notes {
         }
     }
 }
-
-#[cfg(test)]
-mod tests;

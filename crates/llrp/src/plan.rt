@@ -6,9 +6,9 @@ ghost use Rattle.llrp_stream.specs.Device.{IsFreshSource};
 ghost use Rattle.llrp.specs.Calls.Plan.{OpensPlan, ReadsPlan, Refuses, asked_form, asked_plan, asked_polls, asked_set, never_reports, with_options};
 ghost use Rattle.llrp.specs.declared.plan.NoPlan.TheVariants.{Memory};
 
-use crate::network::FAILED;
 use llrp_commands::{PlanWords, answer, write_refusal};
 use llrp_endpoints::{LineForm, Plan, PlanErr, checked_plan, read_rospec, standard_plan};
+use llrp_files::FAILED;
 use llrp_listing::{Refusal, ToolErr, write_all};
 use llrp_schema::KindSet;
 use llrp_stream::{Input, Sink, Source};
@@ -163,6 +163,3 @@ pub fn refuse<E: Sink>(no_plan: NoPlan, e: &mut E) -> Result<u8, ToolErr>
         NoPlan::Memory => answer(Err(ToolErr::Memory), e),
     }
 }
-
-#[cfg(test)]
-mod tests;

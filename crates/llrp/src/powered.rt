@@ -1,6 +1,6 @@
 //! A client that lasts and transmits with a power of its own, which its reader has.
 
-ghost use Rattle.llrp_commands.specs.Calls.Arguments.{IsLongest};
+ghost use Rattle.llrp_words.specs.Calls.Arguments.{IsLongest};
 ghost use Rattle.llrp_stream.specs.Calls.Device.{CanWrite, new_source};
 ghost use Rattle.llrp_stream.specs.Device.{IsFreshSink};
 ghost use Rattle.std.specs.Prelude.{◌≡◌, None};

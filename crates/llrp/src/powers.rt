@@ -1,7 +1,7 @@
 //! What `watch --power` asks its reader before the plan begins.
 
 ghost use Rattle.std.specs.Prelude.{◌≡◌, ◌≤◌, IfOk, IfSome, None, OnOk, length};
-ghost use Rattle.llrp_commands.specs.Calls.Arguments.{IsLongest};
+ghost use Rattle.llrp_words.specs.Calls.Arguments.{IsLongest};
 ghost use Rattle.llrp_stream.specs.Calls.Device.{new_source};
 ghost use Rattle.llrp_stream.specs.Device.{IsFreshSink, IsFreshSource};
 

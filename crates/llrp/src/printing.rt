@@ -1,7 +1,7 @@
 //! What the printers of `watch` have in common.
 
 ghost use Rattle.llrp_stream.specs.Device.{IsFreshSink, IsFreshSource};
-ghost use Rattle.llrp_commands.specs.Calls.Arguments.{IsLongest};
+ghost use Rattle.llrp_words.specs.Calls.Arguments.{IsLongest};
 
 use crate::message_printer::MessagePrinter;
 use crate::tag_printer::TagPrinter;

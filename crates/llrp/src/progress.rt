@@ -112,6 +112,3 @@ impl<W: Sink + Drop, T: Write + Drop> Sink for Progress<W, T> {
         Ok(n)
     }
 }
-
-#[cfg(test)]
-mod tests;

@@ -148,6 +148,3 @@ pub fn stop_clash(words: StopWords<'_>) -> Option<&'static [u8]> {
     }
     None
 }
-
-#[cfg(test)]
-mod tests;

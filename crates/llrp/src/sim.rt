@@ -105,6 +105,3 @@ pub fn sim<N: Net<Listener = TcpListener, Stream = TcpStream>, R: Source, E: Sin
         Err(error) => conclude(Some(Err(error)), e),
     }
 }
-
-#[cfg(test)]
-mod tests;

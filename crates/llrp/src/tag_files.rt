@@ -3,8 +3,8 @@
 ghost use Rattle.std.specs.Prelude.{◌<◌, IfSome, length};
 ghost use Rattle.llrp_stream.specs.Calls.Device.{CanWrite};
 
-use crate::network::FAILED;
 use llrp_commands::answer;
+use llrp_files::FAILED;
 use llrp_listing::{Text, ToolErr, read_all, write_all};
 use llrp_live::{Deed, Line, Rounds, ShortOctets, TagsErr, sighting_at, words_of_tags};
 use llrp_session::Sighting;

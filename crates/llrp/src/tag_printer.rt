@@ -118,6 +118,3 @@ impl<W: Write + Drop> Watcher for TagPrinter<'_, W> {
         Ok(self.deadline.tell(self.rt))
     }
 }
-
-#[cfg(test)]
-mod tests;

@@ -4,7 +4,7 @@
 ghost use Rattle.std.specs.Prelude.{◌≡◌, [], IsSome, None};
 ghost use Rattle.llrp_stream.specs.Calls.Device.{CanWrite, new_source};
 ghost use Rattle.llrp_stream.specs.Device.{IsFreshSink, IsFreshSource};
-ghost use Rattle.llrp_commands.specs.Calls.Arguments.{IsLongest};
+ghost use Rattle.llrp_words.specs.Calls.Arguments.{IsLongest};
 ghost use Rattle.llrp.specs.Calls.Refusals.{HasHeard};
 ghost use Rattle.llrp.specs.Private.Refusals.{ended_by};
 ghost use Rattle.llrp.specs.Calls.Watch.{FollowsLasting, FollowsStop, PrintsMessages, PrintsTo};
@@ -21,7 +21,7 @@ use crate::heard_frames::Asking;
 use crate::labels::asked_labels;
 use crate::listening::Listening;
 use crate::message_printer::MessagePrinter;
-use crate::network::{FAILED, conclude};
+use crate::network::conclude;
 use crate::noted::Noted;
 use crate::notes::Notes;
 use crate::plan::{NoPlan, refuse};
@@ -34,6 +34,7 @@ use crate::watch_plan::{
 };
 use llrp_commands::{StopWords, WatchWords};
 use llrp_endpoints::{LineForm, Plan, run_inventory, run_watching};
+use llrp_files::FAILED;
 use llrp_listing::{ToolErr, write_all};
 use llrp_schema::KindSet;
 use llrp_stream::{Input, Output, Sink, Source};

@@ -151,6 +151,3 @@ pub fn watch_plan(words: WatchWords<'_>, plan: Plan) -> Plan
         .in_form(watch_form(words))
         .in_set(KindSet::Standard)
 }
-
-#[cfg(test)]
-mod tests;

@@ -113,6 +113,3 @@ fn split_whole(octets: &[u8], limit: u32) -> (&[u8], &[u8])
 {
     octets.split_at(whole_octets(octets, limit))
 }
-
-#[cfg(test)]
-mod tests;

@@ -1,19 +1,24 @@
 //! AccessSpecs, and which of them is for a tag.
 
-ghost use Rattle.std.specs.Prelude.{◌≡◌, IfSome, IfNone, Some, None, option_map};
+ghost use Rattle.std.specs.Prelude.{◌≡◌, IfSome, IfNone, Some, None, drop, option_map};
 ghost use Rattle.llrp_access.specs.Calls.Targets as targets;
 
 use crate::operation::Operation;
+use tag_bits::get;
 use tag_memory::{Bank, TagMemory};
 
-/// A pattern of words in a bank of a tag's memory, which has to stand there or not.
+/// A C1G2TargetTag: a pattern of bits in a bank of a tag's memory, which has to stand there or not.
 #[derive(Drop)]
 pub struct Target {
     pub bank: Bank,
     /// Whether the pattern has to stand there.
     pub matches: bool,
+    /// The bit of the bank where it begins; bit 0 is the most significant of the first word.
     pub pointer: u16,
-    pub words: Vec<u16>,
+    /// Of each bit whether it counts.
+    pub mask: Vec<bool>,
+    /// What the bits are that count.
+    pub bits: Vec<bool>,
 }
 
 /// What is read in an AccessSpec.
@@ -39,28 +44,63 @@ pub struct Entry {
     pub done: u16,
 }
 
-/// Whether a pattern stands in a bank.
-fn stands_at(words: &[u16], pointer: usize, pattern: &[u16]) -> bool
-    ensures { result ≡ targets.stands_at words.now pointer pattern.now }
+/// The bit of words at a place, if they have it.
+fn bit_at(words: &[u16], place: usize) -> Option<bool>
+    ensures { result ≡ targets.first (drop place (targets.bits_of words.now)) }
 {
-    let there = words.len();
-    if pointer > there || pattern.len() > there - pointer {
-        return false;
+    match words.get(place / 16) {
+        Some(word) => {
+            let octets = [(*word / 256) as u8, (*word % 256) as u8];
+            Some(get(&octets, place % 16, 1) == 1)
+        }
+        None => None,
     }
-    let rest = words.split_at(pointer).1;
-    *rest.split_at(pattern.len()).0 == *pattern
+}
+
+/// The bit at a place, if there is one.
+fn wanted_at(wanted: &[bool], place: usize) -> Option<bool>
+    ensures { result ≡ targets.first (drop place wanted.now) }
+{
+    match wanted.get(place) {
+        Some(bit) => Some(*bit),
+        None => None,
+    }
+}
+
+/// Whether a bit is the one that is wanted, if it counts; both have to be there.
+fn agrees_at(counts: bool, wanted: Option<bool>, bit: Option<bool>) -> bool
+    ensures { result ≡ targets.agrees_at counts wanted bit }
+{
+    match (wanted, bit) {
+        (Some(wanted), Some(bit)) => !counts || wanted == bit,
+        _ => false,
+    }
+}
+
+/// Whether a pattern stands in words from a bit on.
+fn stands_at(words: &[u16], pointer: u16, mask: &[bool], wanted: &[bool]) -> bool
+    ensures { result ≡ targets.agrees mask.now wanted.now (drop pointer (targets.bits_of words.now)) }
+{
+    for (i, counts) in mask.iter().enumerate() {
+        let bit = bit_at(words, pointer as usize + i);
+        if !agrees_at(*counts, wanted_at(wanted, i), bit) {
+            return false;
+        }
+    }
+    true
 }
 
 /// Whether a tag is as a target wants.
 fn hits(memory: &TagMemory, target: &Target) -> bool
-    ensures { result ≡ targets.hits memory.now target.now }
+    ensures { result ≡ targets.hits memory.now (targets.pattern_of target.now) }
 {
     let stands = stands_at(
         memory.words(target.bank),
-        target.pointer as usize,
-        target.words.as_slice(),
+        target.pointer,
+        target.mask.as_slice(),
+        target.bits.as_slice(),
     );
-    if target.matches { stands } else { !stands }
+    target.matches == stands
 }
 
 /// Whether an AccessSpec is for a tag that this antenna sees while this ROSpec is active.

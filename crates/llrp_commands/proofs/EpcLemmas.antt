@@ -6,12 +6,12 @@ use Rattle.clap.specs.Words.{Row, Text}
 use Rattle.llrp_listing.specs.declared.outcome.ToolErr.{ToolErr}
 use Rattle.llrp_listing.specs.declared.outcome.Verdict.{Verdict}
 use Rattle.llrp_stream.specs.Device.{SourceLog, SinkLog}
-use Rattle.llrp_commands.specs.declared.arguments.epc_words.EpcWords.{EpcWords}
-use Rattle.llrp_commands.specs.Calls.Arguments.{AsksEpcWith, HasOptionalNumber, IsFlag, command_in}
+use Rattle.llrp_words.specs.declared.arguments.epc_words.EpcWords.{EpcWords}
+use Rattle.llrp_words.specs.Calls.Arguments.{AsksEpcWith, HasOptionalNumber, IsFlag, command_in}
 use Rattle.llrp_commands.specs.Calls.Command.{Answers, RanEpc, verdict_status}
 use Rattle.llrp_commands.specs.Calls.Epc.{AnswersEpc, RanEpcWith, some_of}
-use Rattle.llrp_commands.specs.Private.Arguments.{IsEpc}
-use Rattle.llrp_commands.proofs.ArgumentLemmas.{differs}
+use Rattle.llrp_words.specs.Calls.Requests.{IsEpc}
+use Rattle.llrp_words.proofs.ArgumentLemmas.{differs}
 
 flag_unique : (found : Option Text) (a b : Bool) → IsFlag found a → IsFlag found b → a ≡ b
 flag_unique found true true p q = refl
@@ -52,13 +52,6 @@ as_asked P words x text to schemes forms list json count filter file is asks hol
     (subst (λ (z : Option Text). P (option_map (λ t. t.now) x.text) x.forms x.list x.json (option_map (λ t. t.now) x.to) z count filter) s
     (subst (λ (z : Option ℕ). P (option_map (λ t. t.now) x.text) x.forms x.list x.json (option_map (λ t. t.now) x.to) (option_map (λ t. t.now) x.schemes) z filter) c
     (subst (λ (z : Option ℕ). P (option_map (λ t. t.now) x.text) x.forms x.list x.json (option_map (λ t. t.now) x.to) (option_map (λ t. t.now) x.schemes) x.company_digits z) v holds)))))))
-
--- what was done by the options that were read was done by those that the words give
-pub ran_with : (words : List Text) (x : EpcWords) (text to schemes : Option Text) (forms list json : Bool) (count filter : Option ℕ) (file : Option Text) (r0 r1 : SourceLog) (w0 w1 e0 e1 : SinkLog) (answer : Result ℕ ToolErr)
-    → IsEpc (command_in words) x → AsksEpcWith words text forms list json to schemes count filter file
-    → RanEpcWith (option_map (λ t. t.now) x.text) x.forms x.list x.json (option_map (λ t. t.now) x.to) (option_map (λ t. t.now) x.schemes) x.company_digits x.filter r0 r1 w0 w1 e0 e1 answer → RanEpcWith text forms list json to schemes count filter r0 r1 w0 w1 e0 e1 answer
-ran_with words x text to schemes forms list json count filter file r0 r1 w0 w1 e0 e1 answer is asks ran =
-    as_asked (λ t f l j n s c v. RanEpcWith t f l j n s c v r0 r1 w0 w1 e0 e1 answer) words x text to schemes forms list json count filter file is asks ran
 
 plain_answer : (v : Result Verdict ToolErr) (e0 e1 : SinkLog) (answer : Result ℕ ToolErr) → AnswersEpc (some_of v) e0 e1 answer → Answers (verdict_status v) e0 e1 answer
 plain_answer (Ok verdict) e0 e1 answer h = h

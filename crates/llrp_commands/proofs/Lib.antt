@@ -1,13 +1,10 @@
 pub mod AnswerLemmas
-pub mod ArgumentLemmas
-pub mod CommandLemmas
 pub mod DigitLemmas
 pub mod EncodeJsonLemmas
 pub mod EpcLemmas
 pub mod ExplainDigits
-pub mod ExplainLemmas
 pub mod ExplainRuns
-pub mod GivenArguments
-pub mod ReadRows
 pub mod LabelLemmas
 pub mod SegmentLemmas
+pub mod RunLemmas
+pub mod FormerLemmas

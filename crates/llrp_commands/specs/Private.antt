@@ -3,5 +3,3 @@ pub mod Command
 pub mod Digits
 pub mod EncodeJson
 pub mod Explain
-pub mod Parse
-pub mod Arguments

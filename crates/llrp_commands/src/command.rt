@@ -1,34 +1,20 @@
-//! The command line: runs the commands that its words ask for, and gives their exit statuses and
-//! error lines.
+//! The commands over streams, and how a command ends: its exit status and its error line.
 
-ghost use Rattle.std.specs.Prelude.{◌≤◌, ◌≡◌, IfErr, IfOk, MatchResult, false, map, string_bytes};
+ghost use Rattle.std.specs.Prelude.{◌≤◌, ◌≡◌, IfErr, IfOk, MatchResult, string_bytes};
 ghost use Rattle.std.specs.List.{flat_map};
 ghost use Rattle.llrp_schema.specs.declared.kinds.KindSet.{KindSet};
 ghost use Rattle.llrp_tree.specs.declared.TheConstants.{MAX_LIMIT};
-ghost use Rattle.llrp_commands.specs.Calls.Command.{Answers, DoesEncode, DoesShow, EncodesDigits, FailsAsTold, LeftAlone, ListedInForm, PrintsEpcIfAsked, ShowsDigits, ShowsIfAsked, ShowsInForm, StoppedInForm, digit_line, error_line, error_status, fine_status, reason_line, refusal_line, set_of, status_of, verdict_status};
-ghost use Rattle.llrp_commands.specs.Calls.Encode.{EncodedTo, EncodesIfAsked};
+ghost use Rattle.llrp_commands.specs.Calls.Command.{Answers, DoesEncode, DoesShow, EncodesDigits, FailsAsTold, IsLine, ShowsDigits, digit_line, end_line, error_line, error_status, fine_status, reason_line, refusal_line, set_of, status_of, verdict_status};
+ghost use Rattle.llrp_commands.specs.Calls.Encode.{EncodedTo};
 ghost use Rattle.llrp_commands.specs.Private.Command.{Gathers, memory_error};
 ghost use Rattle.llrp_listing.specs.Calls.Copying.{Writes};
+ghost use Rattle.llrp_listing.specs.Show.{ListedAs, ShowsAs, StoppedAs};
 ghost use Rattle.llrp_stream.specs.Device.{IsFreshSink, IsFreshSource};
-ghost use Rattle.llrp_commands.specs.Calls.Arguments.{AsksElsewhere, parses};
-ghost use Rattle.llrp_commands.specs.Calls.Epc.{LeavesFileIfAsked, RunsEpcIfAsked};
-ghost use Rattle.llrp_commands.specs.Calls.Explain.{ExplainsIfAsked};
-ghost use Rattle.llrp_commands.specs.Calls.Fields.{FieldsIfAsked};
-ghost use Rattle.llrp_commands.specs.Calls.Labelled.{LabelsEncodedIfAsked, LabelsShownIfAsked};
-ghost use Rattle.llrp_commands.specs.Calls.ShowNames.{NamesIfAsked};
-ghost use Rattle.llrp_commands.specs.Calls.ShowSegments.{SegmentsIfAsked};
 ghost use Rattle.llrp_stream.specs.Calls.Device.{CanWrite};
 
-use crate::arguments::{Request, request_of};
 use crate::encode_json::{answer_lines, encode_json};
-use crate::epc::{answer_epc, epc, mistake_of};
-use crate::explain::{explain, form_of};
-use crate::fields::{answer_fields, fields};
-use crate::labelled::{encode_with_labels, goes_without_labels, show_with_labels};
-use crate::show_names::show_by_names;
-use crate::show_segments::show_by_segments;
 use itoa::Buffer;
-use llrp_json::{list_stream_json, run_show_json};
+use llrp_json::{Names, list_stream_json_named, run_show_json_named};
 use llrp_listing::{
     Refusal, ToolErr, Verdict, bytes_of_hex, list_stream_in, read_all, run_encode_in, run_show_in,
     write_all,
@@ -36,8 +22,6 @@ use llrp_listing::{
 use llrp_schema::KindSet;
 use llrp_stream::{Output, Sink, Source};
 use std::alloc::{AllocError, Global};
-use std::convert::AsStr;
-use tag_forms::Company;
 
 /// The greatest message, in octets, that `sim`, `inventory` and `loop` take and send, and that
 /// `show` and `encode` take without --limit.
@@ -48,7 +32,7 @@ pub const LIMIT: u32 = 65_536;
 pub const USAGE: u8 = 2;
 
 /// The set of kinds that a command takes: that of the profile, or with --all that of the whole standard.
-fn set_of(all: bool) -> KindSet
+pub(crate) fn set_of(all: bool) -> KindSet
     ensures { result ≡ set_of all }
 {
     if all {
@@ -162,10 +146,10 @@ pub fn answer<E: Sink>(outcome: Result<u8, ToolErr>, e: &mut E) -> Result<u8, To
     }
 }
 
-/// Writes the listing of the bytes of a stream, or with --json their lines.
+/// Writes the listing of the bytes of a stream, or their lines of JSON under these names.
 fn list_bytes<W: Sink>(
     alloc: Global,
-    json: bool,
+    names: Option<Names>,
     set: KindSet,
     limit: u32,
     bytes: &[u8],
@@ -174,22 +158,21 @@ fn list_bytes<W: Sink>(
     requires least { 10 ≤ limit }
     requires most { limit ≤ MAX_LIMIT }
     requires sink { CanWrite (W.log w.old) }
-    ensures ok { IfOk result (λ verdict. ListedInForm json set limit bytes.now (W.log w.old)
-        (W.log w.new) verdict) }
-    ensures err { IfErr result (λ e. StoppedInForm json set limit bytes.now (W.log w.old)
-        (W.log w.new) e) }
+    ensures ok { IfOk result (λ verdict. ListedAs (IsLine names) (end_line names) set limit bytes.now
+        (W.log w.old) (W.log w.new) verdict) }
+    ensures err { IfErr result (λ e. StoppedAs (IsLine names) (end_line names) set limit bytes.now
+        (W.log w.old) (W.log w.new) e) }
 {
-    if json {
-        list_stream_json(alloc, set, bytes, w, limit)
-    } else {
-        list_stream_in(alloc, set, bytes, w, limit)
+    match names {
+        None => list_stream_in(alloc, set, bytes, w, limit),
+        Some(names) => list_stream_json_named(alloc, names, set, bytes, w, limit),
     }
 }
 
-/// Writes the listing of all bytes of the source, or with --json their lines.
+/// Writes the listing of all bytes of the source, or their lines of JSON under these names.
 fn show_bytes<R: Source, W: Sink>(
     alloc: Global,
-    json: bool,
+    names: Option<Names>,
     set: KindSet,
     limit: u32,
     r: &mut R,
@@ -199,19 +182,19 @@ fn show_bytes<R: Source, W: Sink>(
     requires most { limit ≤ MAX_LIMIT }
     requires source { IsFreshSource (R.log r.old) }
     requires sink { IsFreshSink (W.log w.old) }
-    ensures { ShowsInForm json set limit (R.log r.old) (R.log r.new) (W.log w.old) (W.log w.new) result }
+    ensures { ShowsAs (IsLine names) (end_line names) set limit (R.log r.old) (R.log r.new)
+        (W.log w.old) (W.log w.new) result }
 {
-    if json {
-        run_show_json(alloc, set, r, w, limit)
-    } else {
-        run_show_in(alloc, set, r, w, limit)
+    match names {
+        None => run_show_in(alloc, set, r, w, limit),
+        Some(names) => run_show_json_named(alloc, names, set, r, w, limit),
     }
 }
 
 /// The same of a stream of hexadecimal digits, all of which are read and checked first.
 fn show_digits<R: Source, W: Sink>(
     alloc: Global,
-    json: bool,
+    names: Option<Names>,
     set: KindSet,
     limit: u32,
     r: &mut R,
@@ -221,17 +204,17 @@ fn show_digits<R: Source, W: Sink>(
     requires most { limit ≤ MAX_LIMIT }
     requires source { IsFreshSource (R.log r.old) }
     requires sink { IsFreshSink (W.log w.old) }
-    ensures { ShowsDigits json set limit (R.log r.old) (R.log r.new) (W.log w.old) (W.log w.new) result }
+    ensures { ShowsDigits names set limit (R.log r.old) (R.log r.new) (W.log w.old) (W.log w.new) result }
 {
     let text = read_all(alloc, r)?;
     let stream = bytes_of_hex(alloc, text.as_slice())?;
-    list_bytes(alloc, json, set, limit, stream.as_slice(), w)
+    list_bytes(alloc, names, set, limit, stream.as_slice(), w)
 }
 
 /// The command `show`.
-fn show<R: Source, W: Sink>(
+pub(crate) fn show<R: Source, W: Sink>(
     alloc: Global,
-    json: bool,
+    names: Option<Names>,
     hex: bool,
     set: KindSet,
     limit: u32,
@@ -242,12 +225,12 @@ fn show<R: Source, W: Sink>(
     requires most { limit ≤ MAX_LIMIT }
     requires source { IsFreshSource (R.log r.old) }
     requires sink { IsFreshSink (W.log w.old) }
-    ensures { DoesShow json hex set limit (R.log r.old) (R.log r.new) (W.log w.old) (W.log w.new) result }
+    ensures { DoesShow names hex set limit (R.log r.old) (R.log r.new) (W.log w.old) (W.log w.new) result }
 {
     if hex {
-        show_digits(alloc, json, set, limit, r, w)
+        show_digits(alloc, names, set, limit, r, w)
     } else {
-        show_bytes(alloc, json, set, limit, r, w)
+        show_bytes(alloc, names, set, limit, r, w)
     }
 }
 
@@ -346,7 +329,7 @@ pub(crate) fn verdict_status(outcome: Result<Verdict, ToolErr>) -> Result<u8, To
 }
 
 /// Status 0, or the error.
-fn fine_status(outcome: Result<(), ToolErr>) -> Result<u8, ToolErr>
+pub(crate) fn fine_status(outcome: Result<(), ToolErr>) -> Result<u8, ToolErr>
     ensures { result ≡ fine_status outcome }
 {
     match outcome {
@@ -356,7 +339,7 @@ fn fine_status(outcome: Result<(), ToolErr>) -> Result<u8, ToolErr>
 }
 
 /// The command `encode` of a listing, or with --json of lines of JSON, and its exit status.
-fn encode_in_form<R: Source, W: Sink, E: Sink>(
+pub(crate) fn encode_in_form<R: Source, W: Sink, E: Sink>(
     alloc: Global,
     json: bool,
     hex: bool,
@@ -381,144 +364,5 @@ fn encode_in_form<R: Source, W: Sink, E: Sink>(
     } else {
         let outcome = encode(alloc, hex, set, limit, r, w);
         answer(fine_status(outcome), e)
-    }
-}
-
-/// Runs the command that the words after the program's name ask for, and returns its exit status: 0 if all is
-/// well, 1 if the input has a fault, 2 if the words ask for no command, and 3 if a device failed or memory
-/// ran out. An error is written to `e` as a line. For a command that the program runs itself, and for `epc`
-/// with a file, the status is 2, and nothing is read or written. Files that the words name are not opened:
-/// `r` stands for one of them. The only errors are `Memory`, and `Write` if writing to `e` failed.
-pub fn run_command<S: AsStr, R: Source, W: Sink, E: Sink>(
-    alloc: Global,
-    words: &[S],
-    r: &mut R,
-    w: &mut W,
-    e: &mut E,
-) -> Result<u8, ToolErr>
-    requires source { IsFreshSource (R.log r.old) }
-    requires sink { IsFreshSink (W.log w.old) }
-    requires errors { IsFreshSink (E.log e.old) }
-
-    // If the words ask for show or encode, it does what that command does.
-    ensures show { ShowsIfAsked (map S.text words.entry.now) (R.log r.old) (R.log r.new)
-        (W.log w.old) (W.log w.new) (E.log e.old) (E.log e.new) result }
-    ensures encode { EncodesIfAsked (map S.text words.entry.now) (R.log r.old) (R.log r.new)
-        (W.log w.old) (W.log w.new) (E.log e.old) (E.log e.new) result }
-
-    // With --names its lines have the names that the word says.
-    ensures names { NamesIfAsked (map S.text words.entry.now) (R.log r.old) (R.log r.new)
-        (W.log w.old) (W.log w.new) (E.log e.old) (E.log e.new) result }
-
-    // With --segments it lists the frames of a capture.
-    ensures segments { SegmentsIfAsked (map S.text words.entry.now) (R.log r.old) (R.log r.new)
-        (W.log w.old) (W.log w.new) (E.log e.old) (E.log e.new) result }
-
-    // With --keys or --schemes the listing has labels.
-    ensures labels_shown { LabelsShownIfAsked (map S.text words.entry.now) (R.log r.old) (R.log r.new)
-        (W.log w.old) (W.log w.new) (E.log e.old) (E.log e.new) result }
-    ensures labels_encoded { LabelsEncodedIfAsked (map S.text words.entry.now) (R.log r.old) (R.log r.new)
-        (W.log w.old) (W.log w.new) (E.log e.old) (E.log e.new) result }
-
-    // If they ask for epc, it does what epc does with the text.
-    ensures epc { PrintsEpcIfAsked (map S.text words.entry.now) (R.log r.old) (R.log r.new)
-        (W.log w.old) (W.log w.new) (E.log e.old) (E.log e.new) result }
-
-    // With an option or without it does what its options say, if they go together.
-    ensures options { RunsEpcIfAsked (map S.text words.entry.now) (R.log r.old) (R.log r.new)
-        (W.log w.old) (W.log w.new) (E.log e.old) (E.log e.new) result }
-
-    // With a file of company prefixes it is left to the program, which opens that and calls run_epc_by.
-    ensures file { LeavesFileIfAsked (map S.text words.entry.now) (R.log r.old) (R.log r.new)
-        (W.log w.old) (W.log w.new) (E.log e.old) (E.log e.new) result }
-
-    // If they ask for fields, it prints the lines of the tables.
-    ensures fields { FieldsIfAsked (map S.text words.entry.now) (R.log r.old) (R.log r.new)
-        (W.log w.old) (W.log w.new) (E.log e.old) (E.log e.new) result }
-
-    // If they ask for explain, it explains each frame, or with --only those with one id.
-    ensures explain { ExplainsIfAsked (map S.text words.entry.now) (R.log r.old) (R.log r.new)
-        (W.log w.old) (W.log w.new) (E.log e.old) (E.log e.new) result }
-
-    // If they ask for no command, or for help, nothing is read.
-    ensures refused { parses (map S.text words.entry.now) ≡ false → R.log r.new ≡ R.log r.old }
-
-    // The other commands are left to the program.
-    ensures elsewhere { AsksElsewhere (map S.text words.entry.now)
-        → LeftAlone (R.log r.old) (R.log r.new) (W.log w.old) (W.log w.new) (E.log e.old)
-        (E.log e.new) result }
-    ensures errors { IfErr result (λ error. FailsAsTold (E.log e.old) (E.log e.new) error) }
-{
-    match request_of(alloc, words)? {
-        Request::Show {
-            hex,
-            all,
-            json,
-            names,
-            labels,
-            capture,
-            limit,
-        } => {
-            if labels.asks() {
-                let other = goes_without_labels(json, names, capture);
-                return show_with_labels(alloc, other, labels, hex, set_of(all), limit, r, w, e);
-            }
-            if capture.asks() {
-                let plain = capture.segments && !hex && names.is_none();
-                let word = capture.port;
-                return show_by_segments(alloc, plain, json, word, set_of(all), limit, r, w, e);
-            }
-            match names {
-                Some(word) => show_by_names(alloc, json, word, hex, set_of(all), limit, r, w, e),
-                None => {
-                    let outcome = show(alloc, json, hex, set_of(all), limit, r, w);
-                    answer(verdict_status(outcome), e)
-                }
-            }
-        }
-        Request::Encode {
-            hex,
-            all,
-            json,
-            labels,
-            limit,
-        } => {
-            if labels.asks() {
-                encode_with_labels(alloc, json, labels, hex, set_of(all), limit, r, w, e)
-            } else {
-                encode_in_form(alloc, json, hex, set_of(all), limit, r, w, e)
-            }
-        }
-        Request::Epc(words) => match words.prefixes {
-            Some(_) => Ok(USAGE),
-            None => {
-                let outcome = epc(alloc, words, Company::Digits(words.company_digits), r, w);
-                answer_epc(outcome, mistake_of(words), e)
-            }
-        },
-        Request::Fields { all, name } => {
-            let set = set_of(all);
-            let outcome = fields(alloc, set, name, w);
-            answer_fields(alloc, set, name.unwrap_or(""), outcome, e)
-        }
-        Request::Explain {
-            hex,
-            all,
-            json,
-            only,
-            limit,
-        } => {
-            let outcome = explain(alloc, form_of(json), only, hex, set_of(all), limit, r, w);
-            answer(verdict_status(outcome), e)
-        }
-        Request::Network(_) => Ok(USAGE),
-        Request::Help(text) => {
-            let outcome = write_all(w, text.as_bytes());
-            answer(fine_status(outcome), e)
-        }
-        Request::Usage(text) => {
-            write_all(e, text.as_bytes())?;
-            Ok(USAGE)
-        }
     }
 }

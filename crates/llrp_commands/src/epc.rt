@@ -3,15 +3,15 @@
 ghost use Rattle.std.specs.Prelude.{◌≡◌, ◌<◌, Some, None, true, false, option_map};
 ghost use Rattle.tag_forms.specs.Company.{IsUsable};
 ghost use Rattle.llrp_commands.specs.Calls.Epc.{DoesEpc, AnswersEpc, DoesFormInSet, DoesFormOf, DoesFormsInSet, DoesInSchemes, DoesListIn, DoesListInSet, DoesObjectInSet, DoesObjectsInSet, some_of, wanted_in};
-ghost use Rattle.llrp_commands.specs.Private.Arguments.{IsUnsaid};
+ghost use Rattle.llrp_words.specs.Calls.Requests.{IsUnsaid};
 ghost use Rattle.llrp_stream.specs.Device.{IsFreshSink, IsFreshSource, SourceLog};
 ghost use Rattle.llrp_stream.specs.Calls.Device.{CanWrite};
 
-use crate::arguments::EpcWords;
 use crate::command::{USAGE, answer, verdict_status};
 use llrp_keys::{run_answer, run_epc_in_all, run_forms, run_forms_in_all, run_list};
 use llrp_listing::{ToolErr, Verdict, run_epc, write_all};
 use llrp_stream::{Sink, Source};
+use llrp_words::EpcWords;
 use std::alloc::Global;
 use tag_forms::{Company, Form, Wanted, form_named};
 

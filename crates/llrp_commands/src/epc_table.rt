@@ -1,21 +1,21 @@
 //! The command `epc` with a file of company prefixes.
 
 ghost use Rattle.std.specs.Prelude.{◌++◌, ◌≡◌, IfErr, IfOk, codes, decimal, map, option_map};
-ghost use Rattle.llrp_commands.specs.Calls.Arguments.{FileAsked};
+ghost use Rattle.llrp_words.specs.Calls.Arguments.{FileAsked};
 ghost use Rattle.llrp_commands.specs.Calls.Command.{FailsAsTold};
 ghost use Rattle.llrp_commands.specs.Calls.Epc.{DoesEpcBy, RefusesTable, RunsEpcByFile};
-ghost use Rattle.llrp_commands.specs.Private.Arguments.{IsUnsaid};
+ghost use Rattle.llrp_words.specs.Calls.Requests.{IsUnsaid};
 ghost use Rattle.llrp_listing.specs.Calls.Copying.{Writes};
 ghost use Rattle.llrp_stream.specs.Device.{IsFreshSink, IsFreshSource};
 ghost use Rattle.llrp_stream.specs.Calls.Device.{CanWrite};
 
-use crate::arguments::{EpcWords, Request, request_of};
 use crate::command::{USAGE, answer, write_parts};
 use crate::epc::{answer_epc, epc, mistake_of};
 use itoa::Buffer;
 use llrp_keys::{TableErr, read_prefixes};
 use llrp_listing::{ToolErr, Verdict, write_all};
 use llrp_stream::{Sink, Source};
+use llrp_words::{EpcWords, Request, request_of};
 use std::alloc::{AllocError, Global};
 use std::convert::AsStr;
 use tag_forms::{Company, Prefixes};

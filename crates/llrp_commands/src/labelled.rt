@@ -11,13 +11,13 @@ ghost use Rattle.llrp_commands.specs.Calls.Command.{FailsAsTold};
 ghost use Rattle.llrp_commands.specs.Calls.Labelled.{AnswersLabels, EncodesLabelled, LabelsEncodedTo, MeansLabels, ShownTo, label_line};
 ghost use Rattle.llrp_commands.specs.Calls.ShowNames.{AnswersMistake};
 
-use crate::arguments::{LabelWords, SegmentWords};
 use crate::command::{USAGE, answer, encode, verdict_status, write_parts};
 use itoa::Buffer;
 use llrp_labels::{LabelErr, LabelFault, Labels, read_plain, run_show_labelled};
 use llrp_listing::{ToolErr, write_all};
 use llrp_schema::KindSet;
 use llrp_stream::{Input, Sink, Source};
+use llrp_words::{LabelWords, SegmentWords};
 use std::alloc::Global;
 
 /// What is written where --keys or --schemes does not go with the other words.

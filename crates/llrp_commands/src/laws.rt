@@ -1,29 +1,64 @@
-//! Laws of how the words are parsed.
+//! Laws of the commands, and of the words that they come of.
 
-ghost use Rattle.std.specs.Prelude.{List, ℕ};
-ghost use Rattle.llrp_commands.specs.Calls.Arguments.{AsksEncodeIfNamed, AsksEpcIfNamed, AsksExplainIfNamed, AsksFieldsIfNamed, AsksShowIfNamed};
+ghost use Rattle.std.specs.Prelude.{◌≡◌, List, Result, false, ℕ};
+ghost use Rattle.llrp_listing.specs.declared.outcome.ToolErr.{ToolErr};
+ghost use Rattle.llrp_stream.specs.Device.{SinkLog, SourceLog};
+ghost use Rattle.llrp_words.specs.Calls.Arguments.{AsksElsewhere, parses};
+ghost use Rattle.llrp_commands.specs.Calls.Command.{LeftAlone, PrintsEpcIfAsked, ShowsIfAsked};
+ghost use Rattle.llrp_commands.specs.Calls.Does.{Runs};
+ghost use Rattle.llrp_commands.specs.Calls.Encode.{EncodesIfAsked};
+ghost use Rattle.llrp_commands.specs.Calls.Epc.{LeavesFileIfAsked, RunsEpcIfAsked};
+ghost use Rattle.llrp_commands.specs.Calls.Explain.{ExplainsIfAsked};
+ghost use Rattle.llrp_commands.specs.Calls.Fields.{FieldsIfAsked};
+ghost use Rattle.llrp_commands.specs.Calls.Labelled.{LabelsEncodedIfAsked, LabelsShownIfAsked};
+ghost use Rattle.llrp_commands.specs.Calls.ShowNames.{NamesIfAsked};
+ghost use Rattle.llrp_commands.specs.Calls.ShowSegments.{CapturesIfAsked, SegmentsIfAsked};
 
-/// If the words are parsed and name epc, they ask for it with one text or none, and with each of its
-/// options or without.
-pub fn epc_has_words()
-    ensures { (words : List (List ℕ)) → AsksEpcIfNamed words }
-{}
+pub use llrp_words::laws::{
+    epc_has_words, explain_has_flags, fields_has_flag, show_and_encode_have_flag,
+};
 
-/// If the words are parsed and name show or encode, they ask for it with --hex or without, with
-/// --all or without, with --json or without, and with one limit.
-pub fn show_and_encode_have_flag()
-    ensures show { (words : List (List ℕ)) → AsksShowIfNamed words }
-    ensures encode { (words : List (List ℕ)) → AsksEncodeIfNamed words }
-{}
-
-/// If the words are parsed and name fields, they ask for it with --all or without, and with one name
-/// or none.
-pub fn fields_has_flag()
-    ensures { (words : List (List ℕ)) → AsksFieldsIfNamed words }
-{}
-
-/// If the words are parsed and name explain, they ask for it with --hex or without, with --all or
-/// without, with --json or without, with one id or none, and with one limit.
-pub fn explain_has_flags()
-    ensures { (words : List (List ℕ)) → AsksExplainIfNamed words }
+/// What runs for words that ask for a command is, for each command and each of its options, what that command
+/// does.
+pub fn each_command_runs()
+    ensures show { (words : List (List ℕ)) (r0 r1 : SourceLog) (w0 w1 e0 e1 : SinkLog)
+        (answer : Result ℕ ToolErr) → Runs words r0 r1 w0 w1 e0 e1 answer
+        → ShowsIfAsked words r0 r1 w0 w1 e0 e1 answer }
+    ensures names { (words : List (List ℕ)) (r0 r1 : SourceLog) (w0 w1 e0 e1 : SinkLog)
+        (answer : Result ℕ ToolErr) → Runs words r0 r1 w0 w1 e0 e1 answer
+        → NamesIfAsked words r0 r1 w0 w1 e0 e1 answer }
+    ensures segments { (words : List (List ℕ)) (r0 r1 : SourceLog) (w0 w1 e0 e1 : SinkLog)
+        (answer : Result ℕ ToolErr) → Runs words r0 r1 w0 w1 e0 e1 answer
+        → CapturesIfAsked words r0 r1 w0 w1 e0 e1 answer
+        → SegmentsIfAsked words r0 r1 w0 w1 e0 e1 answer }
+    ensures labels_shown { (words : List (List ℕ)) (r0 r1 : SourceLog) (w0 w1 e0 e1 : SinkLog)
+        (answer : Result ℕ ToolErr) → Runs words r0 r1 w0 w1 e0 e1 answer
+        → LabelsShownIfAsked words r0 r1 w0 w1 e0 e1 answer }
+    ensures encode { (words : List (List ℕ)) (r0 r1 : SourceLog) (w0 w1 e0 e1 : SinkLog)
+        (answer : Result ℕ ToolErr) → Runs words r0 r1 w0 w1 e0 e1 answer
+        → EncodesIfAsked words r0 r1 w0 w1 e0 e1 answer }
+    ensures labels_encoded { (words : List (List ℕ)) (r0 r1 : SourceLog) (w0 w1 e0 e1 : SinkLog)
+        (answer : Result ℕ ToolErr) → Runs words r0 r1 w0 w1 e0 e1 answer
+        → LabelsEncodedIfAsked words r0 r1 w0 w1 e0 e1 answer }
+    ensures epc { (words : List (List ℕ)) (r0 r1 : SourceLog) (w0 w1 e0 e1 : SinkLog)
+        (answer : Result ℕ ToolErr) → Runs words r0 r1 w0 w1 e0 e1 answer
+        → PrintsEpcIfAsked words r0 r1 w0 w1 e0 e1 answer }
+    ensures options { (words : List (List ℕ)) (r0 r1 : SourceLog) (w0 w1 e0 e1 : SinkLog)
+        (answer : Result ℕ ToolErr) → Runs words r0 r1 w0 w1 e0 e1 answer
+        → RunsEpcIfAsked words r0 r1 w0 w1 e0 e1 answer }
+    ensures file { (words : List (List ℕ)) (r0 r1 : SourceLog) (w0 w1 e0 e1 : SinkLog)
+        (answer : Result ℕ ToolErr) → Runs words r0 r1 w0 w1 e0 e1 answer
+        → LeavesFileIfAsked words r0 r1 w0 w1 e0 e1 answer }
+    ensures fields { (words : List (List ℕ)) (r0 r1 : SourceLog) (w0 w1 e0 e1 : SinkLog)
+        (answer : Result ℕ ToolErr) → Runs words r0 r1 w0 w1 e0 e1 answer
+        → FieldsIfAsked words r0 r1 w0 w1 e0 e1 answer }
+    ensures explain { (words : List (List ℕ)) (r0 r1 : SourceLog) (w0 w1 e0 e1 : SinkLog)
+        (answer : Result ℕ ToolErr) → Runs words r0 r1 w0 w1 e0 e1 answer
+        → ExplainsIfAsked words r0 r1 w0 w1 e0 e1 answer }
+    ensures refused { (words : List (List ℕ)) (r0 r1 : SourceLog) (w0 w1 e0 e1 : SinkLog)
+        (answer : Result ℕ ToolErr) → Runs words r0 r1 w0 w1 e0 e1 answer
+        → parses words ≡ false → r1 ≡ r0 }
+    ensures elsewhere { (words : List (List ℕ)) (r0 r1 : SourceLog) (w0 w1 e0 e1 : SinkLog)
+        (answer : Result ℕ ToolErr) → Runs words r0 r1 w0 w1 e0 e1 answer
+        → AsksElsewhere words → LeftAlone r0 r1 w0 w1 e0 e1 answer }
 {}

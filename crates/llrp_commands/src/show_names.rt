@@ -6,11 +6,11 @@ ghost use Rattle.llrp_stream.specs.Calls.Device.{CanWrite};
 ghost use Rattle.llrp_stream.specs.Device.{IsFreshSink, IsFreshSource};
 ghost use Rattle.llrp_json.specs.declared.names.Names.{Names};
 ghost use Rattle.llrp_commands.specs.Calls.Command.{FailsAsTold};
-ghost use Rattle.llrp_commands.specs.Calls.ShowNames.{AsksNames, NamedTo, ShowsNamed, ShowsNamedDigits};
+ghost use Rattle.llrp_commands.specs.Calls.ShowNames.{AsksNames, NamedTo};
 
-use crate::command::{USAGE, answer, verdict_status};
-use llrp_json::{Names, list_stream_json_named, run_show_json_named};
-use llrp_listing::{ToolErr, Verdict, bytes_of_hex, read_all, write_all};
+use crate::command::{USAGE, answer, show, verdict_status};
+use llrp_json::Names;
+use llrp_listing::{ToolErr, write_all};
 use llrp_schema::KindSet;
 use llrp_stream::{Sink, Source};
 use std::alloc::Global;
@@ -37,49 +37,6 @@ fn names_asked(json: bool, word: &str) -> Option<Names>
     }
 }
 
-/// Writes the lines of JSON of a stream of hexadecimal digits, all of which are read and checked first.
-fn show_digits<R: Source, W: Sink>(
-    alloc: Global,
-    names: Names,
-    set: KindSet,
-    limit: u32,
-    r: &mut R,
-    w: &mut W,
-) -> Result<Verdict, ToolErr>
-    requires least { 10 ≤ limit }
-    requires most { limit ≤ MAX_LIMIT }
-    requires source { IsFreshSource (R.log r.old) }
-    requires sink { IsFreshSink (W.log w.old) }
-    ensures { ShowsNamedDigits names set limit (R.log r.old) (R.log r.new) (W.log w.old) (W.log w.new) result }
-{
-    let text = read_all(alloc, r)?;
-    let stream = bytes_of_hex(alloc, text.as_slice())?;
-    list_stream_json_named(alloc, names, set, stream.as_slice(), w, limit)
-}
-
-/// Writes the lines of JSON of a stream, under these names.
-fn show_named<R: Source, W: Sink>(
-    alloc: Global,
-    names: Names,
-    hex: bool,
-    set: KindSet,
-    limit: u32,
-    r: &mut R,
-    w: &mut W,
-) -> Result<Verdict, ToolErr>
-    requires least { 10 ≤ limit }
-    requires most { limit ≤ MAX_LIMIT }
-    requires source { IsFreshSource (R.log r.old) }
-    requires sink { IsFreshSink (W.log w.old) }
-    ensures { ShowsNamed names hex set limit (R.log r.old) (R.log r.new) (W.log w.old) (W.log w.new) result }
-{
-    if hex {
-        show_digits(alloc, names, set, limit, r, w)
-    } else {
-        run_show_json_named(alloc, names, set, r, w, limit)
-    }
-}
-
 /// The command `show` with this word of --names, and its exit status.
 pub(crate) fn show_by_names<R: Source, W: Sink, E: Sink>(
     alloc: Global,
@@ -103,7 +60,7 @@ pub(crate) fn show_by_names<R: Source, W: Sink, E: Sink>(
 {
     match names_asked(json, word) {
         Some(names) => {
-            let outcome = show_named(alloc, names, hex, set, limit, r, w);
+            let outcome = show(alloc, Some(names), hex, set, limit, r, w);
             answer(verdict_status(outcome), e)
         }
         None => {

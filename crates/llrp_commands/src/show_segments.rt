@@ -1,11 +1,12 @@
 //! The command `show` with --segments.
 
-ghost use Rattle.std.specs.Prelude.{◌≤◌, ◌≡◌, ◌≢◌, MatchOption, IfErr, IfOk, option_map, ℕ};
+ghost use Rattle.std.specs.Prelude.{◌&&◌, ◌≤◌, ◌≡◌, ◌≢◌, MatchOption, IfErr, IfOk, is_none, not, option_map, ℕ};
 ghost use Rattle.llrp_tree.specs.declared.TheConstants.{MAX_LIMIT};
 ghost use Rattle.llrp_stream.specs.Calls.Device.{CanWrite};
 ghost use Rattle.llrp_stream.specs.Device.{IsFreshSink, IsFreshSource};
 ghost use Rattle.llrp_commands.specs.Calls.Command.{FailsAsTold};
-ghost use Rattle.llrp_commands.specs.Calls.ShowSegments.{IsPort, MeansPort, SegmentsTo};
+ghost use Rattle.llrp_commands.specs.Calls.Does.{IsPort};
+ghost use Rattle.llrp_commands.specs.Calls.ShowSegments.{MeansPort, SegmentsTo};
 
 use crate::command::{USAGE, answer, verdict_status, write_parts};
 use itoa::Buffer;
@@ -13,6 +14,7 @@ use llrp_listing::{ToolErr, write_all};
 use llrp_schema::KindSet;
 use llrp_sides::{Form, LineFault, ShowErr, show_segments};
 use llrp_stream::{Sink, Source};
+use llrp_words::SegmentWords;
 use std::alloc::Global;
 
 /// What is written where --segments and --port do not go with the other words.
@@ -24,6 +26,13 @@ For more information, try '--help'.
 
 /// The port that is registered for LLRP.
 const OWN_PORT: u16 = 5084;
+
+/// Whether --segments is there, and no option that does not go with it.
+pub(crate) fn is_plain(hex: bool, names: Option<&str>, capture: SegmentWords<'_>) -> bool
+    ensures { result ≡ (capture.entry.segments && (not hex && is_none names.entry)) }
+{
+    capture.segments && !hex && names.is_none()
+}
 
 /// The port that a word of --port spells.
 fn port_in(word: &str) -> Option<u16>

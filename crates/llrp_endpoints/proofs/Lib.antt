@@ -1,10 +1,3 @@
-pub mod GeneralAsked
-pub mod GeneralFeeds
-pub mod GeneralFronts
-pub mod GeneralGiving
-pub mod GeneralHeld
-pub mod GeneralHolding
-pub mod GeneralParts
 pub mod ActingLemmas
 pub mod AsideLemmas
 pub mod AsideSteps
@@ -27,7 +20,6 @@ pub mod MomentLemmas
 pub mod ObjectLemmas
 pub mod OddLemmas
 pub mod OneServing
-pub mod OneServingAll
 pub mod OwnParts
 pub mod PlanAnswers
 pub mod PlanCanEnd
@@ -57,8 +49,6 @@ pub mod ScriptUnique
 pub mod SendingLemmas
 pub mod SentWithinLimit
 pub mod ServeLemmas
-pub mod ServedAll
-pub mod ServedInOneWay
 pub mod ServingBegins
 pub mod ServingEvents
 pub mod ServingPieces

@@ -20,7 +20,10 @@ use Rattle.llrp_endpoints.specs.Sending.{AreFrames}
 use Rattle.llrp_endpoints.specs.EndsAgree.{IsMessage, IsFrontOfMessage, NextAreMessages}
 use Rattle.llrp_endpoints.proofs.FrameFronts.{within, is_frame}
 use Rattle.llrp_endpoints.proofs.ByteRuns.{next_bytes}
-use Rattle.llrp_endpoints.proofs.GeneralFronts.{never_breaks as not_broken}
+
+not_broken : (front : List ℕ) → end_of front ≡ Broken → ⊥
+not_broken [] e = cc
+not_broken (b ∷ bytes) e = cc
 
 -- ---- what follows the whole messages
 

@@ -14,4 +14,3 @@ pub mod Sending
 pub mod ServingLaws
 pub mod ServingStands
 pub mod TagListing
-pub mod General

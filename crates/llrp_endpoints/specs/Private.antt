@@ -8,6 +8,5 @@ pub mod Reads
 pub mod Script
 pub mod ServingStands
 pub mod TagListing
-pub mod General
 pub mod Server
 pub mod Watching

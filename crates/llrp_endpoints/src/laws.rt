@@ -8,7 +8,6 @@ ghost use Rattle.llrp_stream.specs.declared.item.Item.{Item};
 ghost use Rattle.llrp_endpoints.specs.EndsAgree.{AfterAllBytes, BytesAreMessages, EachEventHappens, EachScheduleRuns, IsARunOfMessages, NothingIsUnexpected, ViewCatchesUp, ViewIsTable, ReportsArrive, ReportsAreKept, PendingIsOnTheWay, NothingIsPending, TablesArrive};
 ghost use Rattle.llrp_session.specs.MessageAgreement.{ReaderHasHistory, OneActive, NoneDiffers};
 ghost use Rattle.llrp_endpoints.specs.Plan.{Plan};
-ghost use Rattle.llrp_endpoints.specs.Calls.General.{ServesAll};
 ghost use Rattle.llrp_endpoints.specs.Calls.HeardLaws.{EachRoSpecIsHeard, HeardIsLawful, ProfileIsHeard};
 ghost use Rattle.llrp_endpoints.specs.Calls.PlanLaws.{course_of, CanEnd, CoursesGoOn, EndsMean, HasOneCourse, IsValid, SendsWithinLimit, StrangeIsTheReaders, TakesEachCommand, TakesInOrder, TakesOneByOne, TakesWhereAwaited};
 ghost use Rattle.llrp_endpoints.specs.Calls.Script.{IsLawfulScript, IsScript};
@@ -39,14 +38,6 @@ pub fn script_or_refused()
 pub fn one_serving()
     ensures { (reader : Reader) (entries : List Entry) (bytes : List ℕ) → reader.limit ≤ MAX_LIMIT
         → AreOctets bytes → IsServedInOneWay (Serves reader entries bytes) }
-{}
-
-/// For a given reader, script and octets of a general client, serving with requests outside the profile answered
-/// sends one list of messages and ends in one state.
-#[tactic(auto, using(crate::proofs::ServedInOneWay::served_all_in_one_way))]
-pub fn one_serving_all()
-    ensures { (reader : Reader) (entries : List Entry) (bytes : List ℕ) → reader.limit ≤ MAX_LIMIT
-        → AreOctets bytes → IsServedInOneWay (ServesAll reader entries bytes) }
 {}
 
 /// A list of messages has one list of frames, so the messages determine the bytes that serving

@@ -19,7 +19,6 @@ mod course;
 mod form;
 mod frames;
 mod gathering;
-mod general;
 mod heard;
 mod hearing;
 mod inventory;
@@ -50,7 +49,7 @@ pub use plan::{
     LONGEST_ROSPEC_TEXT, Plan, PlanErr, PlanFault, checked_plan, read_rospec, standard_plan,
 };
 pub use script::{Action, Entry, LONGEST_ENTRY, MOST_ENTRIES, Script};
-pub use serve::{run_serve, run_serve_all};
+pub use serve::run_serve;
 pub use serving::Serving;
 pub use summary::Summary;
 pub use tag_lister::TagLister;

@@ -2,12 +2,10 @@
 
 ghost use Rattle.std.specs.Prelude.{◌≡◌, [], List, ℕ};
 ghost use Rattle.llrp_stream.specs.Device.{IsFreshSink, IsFreshSource};
-ghost use Rattle.llrp_endpoints.specs.Calls.General.{RunsServeAll};
 ghost use Rattle.llrp_endpoints.specs.Private.Server.{RunsServer};
 ghost use Rattle.llrp_endpoints.specs.RunServe.{RunsServe};
 ghost use Rattle.llrp_endpoints.specs.Serving.{IsNewReader};
 
-use crate::general::General;
 use crate::script::Script;
 use crate::server::Server;
 use crate::serving::Serving;
@@ -16,7 +14,7 @@ use llrp_session::Reader;
 use llrp_stream::{Sink, Source};
 use std::alloc::Global;
 
-/// Serves a client by a server that has not started, for [`run_serve`] and [`run_serve_all`]. What it
+/// Serves a client by a server that has not started, for [`run_serve`]. What it
 /// says is gathered in `out`, which is empty at first.
 fn serve<S: Server, R: Source, W: Sink>(
     server: &mut S,
@@ -67,27 +65,4 @@ pub fn run_serve<R: Source, W: Sink>(
     let mut serving = Serving::new(alloc, core, script);
     let mut out = Vec::new(alloc);
     serve(&mut serving, &mut out, r, w)
-}
-
-/// Serves a general client, as [`run_serve`] does, and answers requests outside the profile besides:
-/// GET_READER_CAPABILITIES, GET_READER_CONFIG and GET_SUPPORTED_VERSION, and those that delete,
-/// enable, disable or list AccessSpecs, of which it has none ([`llrp_session::answer`]). They do not
-/// come to the reader, so the script does not count them. Any other message that the profile has not is
-/// refused by the reader.
-pub fn run_serve_all<R: Source, W: Sink>(
-    alloc: Global,
-    core: Reader,
-    script: Script,
-    r: &mut R,
-    w: &mut W,
-) -> Result<(), ToolErr>
-    requires core { IsNewReader core }
-    requires source { IsFreshSource (R.log r.old) }
-    requires sink { IsFreshSink (W.log w.old) }
-    ensures { (bytes : List ℕ) × RunsServeAll core script (R.log r.old) (R.log r.new) (W.log w.old)
-        (W.log w.new) bytes result }
-{
-    let mut general = General::new(alloc, core, script);
-    let mut out = Vec::new(alloc);
-    serve(&mut general, &mut out, r, w)
 }

@@ -24,6 +24,3 @@ mod serving;
 pub use located::Located;
 pub use others::{Nobody, OtherClients};
 pub use serve::{run_serve_among, run_serve_whole};
-
-#[cfg(test)]
-mod tests;

@@ -25,6 +25,3 @@ impl OtherClients for Nobody {
         false
     }
 }
-
-#[cfg(test)]
-mod tests;

@@ -216,6 +216,16 @@ impl JsonPrinter {
         }
     }
 
+    /// Forgets what it has received, as if it were new, but keeps its memory.
+    pub fn clear(&mut self)
+        ensures { Holds self.new.mark self.new.depth self.new.is_parent self.new.text [] [] }
+    {
+        self.text.truncate(0);
+        self.mark = 0;
+        self.depth = 0;
+        self.is_parent = false;
+    }
+
     /// Appends what the object of a parameter below the open nodes begins with.
     #[inline(always)]
     pub(crate) fn open_parameter(&mut self, kind: ParamKind) -> Result<(), AllocError>

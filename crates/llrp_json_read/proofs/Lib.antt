@@ -11,6 +11,7 @@ pub mod OneMessage
 pub mod Parameters
 pub mod PrintedFields
 pub mod PrintedLengths
+pub mod PrintedLines
 pub mod PrintedMessages
 pub mod PrintedParameters
 pub mod PrintedStreams

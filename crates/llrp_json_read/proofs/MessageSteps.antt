@@ -37,8 +37,9 @@ message_members_refused p kind j e is h = as_error (FaultAt (Message kind) j) (R
 pub start_refused : (p : KindSet) (kind : MsgKind) (j : Json) (e : ReadErr) → IsOfKind p (Message kind) j → AreChecked kind j → IsReadErr (RefusesStart j) e → IsReadErr (RefusesOwnMessage p j) e
 start_refused p kind j e is checked h = as_error (RefusesStart j) (RefusesOwnMessage p j) e (λ r bad. inr (inr (inl (kind, (is, checked is.members is.object), bad)))) h
 
-pub message_values_refused : (p : KindSet) (kind : MsgKind) (j : Json) (e : ReadErr) → IsOfKind p (Message kind) j → AreChecked kind j → IsReadErr (RefusesValues (Message kind) j) e → IsReadErr (RefusesOwnMessage p j) e
-message_values_refused p kind j e is checked h = as_error (RefusesValues (Message kind) j) (RefusesOwnMessage p j) e (λ r bad. inr (inr (inr (kind, (is, checked is.members is.object), bad)))) h
+pub message_values_refused : (p : KindSet) (kind : MsgKind) (j : Json) (version id : ℕ) (e : ReadErr) → IsOfKind p (Message kind) j → AreChecked kind j → SaysNumber Version (codes "version") j version × SaysNumber Id (codes "id") j id → IsReadErr (RefusesValues (Message kind) j) e → IsReadErr (RefusesOwnMessage p j) e
+message_values_refused p kind j version id e is checked start h =
+    as_error (RefusesValues (Message kind) j) (RefusesOwnMessage p j) e (λ r bad. inr (inr (inr (kind, (is, checked is.members is.object), ((version, start.0), (id, start.1)), bad)))) h
 
 pub message_parts_said : (p : KindSet) (kind : MsgKind) (j : Json) (version id : ℕ) (fields tail : List ℕ) → IsOfKind p (Message kind) j → AreChecked kind j → SaysNumber Version (codes "version") j version × SaysNumber Id (codes "id") j id
     → SaysFields (plain_fields_of (Message kind)) j fields × SaysTail (tail_of (Message kind)) j tail → MessageParts p j kind version id fields tail
@@ -55,7 +56,7 @@ pub own_message_refused : (p : KindSet) (j : Json) (e : ReadErr) → IsReadErr (
 own_message_refused p j e h = as_error (RefusesOwnMessage p j) (RefusesMessage p j) e (λ r bad. inl bad) h
 
 pub message_below_refused : (p : KindSet) (kind : MsgKind) (j : Json) (version id : ℕ) (fields tail : List ℕ) (e : ReadErr) → MessageParts p j kind version id fields tail → IsReadErr (RefusesEach (SaysParameter p MAX_DEPTH) (RefusesParameter p MAX_DEPTH) 0 (below j)) e → IsReadErr (RefusesMessage p j) e
-message_below_refused p kind j version id fields tail e own h = as_error (RefusesEach (SaysParameter p MAX_DEPTH) (RefusesParameter p MAX_DEPTH) 0 (below j)) (RefusesMessage p j) e (λ r bad. inr (inl (kind, fields, tail, own.parts, bad))) h
+message_below_refused p kind j version id fields tail e own h = as_error (RefusesEach (SaysParameter p MAX_DEPTH) (RefusesParameter p MAX_DEPTH) 0 (below j)) (RefusesMessage p j) e (λ r bad. inr (inl (kind, fields, tail, own.parts, ((version, own.version_said), (id, own.id_said)), bad))) h
 
 -- what message is made of these parts, or why none is
 abbrev pub IsMessageMade : MsgKind → ℕ → ℕ → List ℕ → List ℕ → List Tree → Result MessageTree ReadErr → Type 0

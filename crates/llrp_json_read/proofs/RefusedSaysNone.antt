@@ -117,13 +117,13 @@ own_message_refused p j r m (inr (inl (other, bad))) h =
     members_refused p (Message m.kind) j r (subst (λ (x : MsgKind). RefusesMembers p (Message x) j r) same bad) h.parts.of_kind h.parts.checked
 own_message_refused p j r m (inr (inr (inl (other, has, inl bad)))) h = bad.0 m.version h.version
 own_message_refused p j r m (inr (inr (inl (other, has, inr bad)))) h = bad.1 m.id h.id
-own_message_refused p j r m (inr (inr (inr (other, has, bad)))) h =
+own_message_refused p j r m (inr (inr (inr (other, has, start, bad)))) h =
     let same : other ≡ m.kind = message_same p other m.kind j has.0 h.parts.of_kind in
     values_refused p (Message m.kind) j r m.fields m.tail (subst (λ (x : MsgKind). RefusesValues (Message x) j r) same bad) h.parts
 
 pub message_refused : (p : KindSet) (j : Json) (r : Refused) (m : MessageTree) → RefusesMessage p j r → SaysMessage p j m → ⊥
 message_refused p j r m (inl bad) h = own_message_refused p j r m bad h
-message_refused p j r m (inr (inl (kind, fields, tail, parts, bad))) h =
+message_refused p j r m (inr (inl (kind, fields, tail, parts, start, bad))) h =
     each_refused (SaysParameter p MAX_DEPTH) (RefusesParameter p MAX_DEPTH) (λ i q u b s. parameter_refused p MAX_DEPTH i q u b s) 0 (below j) r (trees m.children) bad h.parameters
 message_refused p j r m (inr (inr (kind, q))) h =
     let same : kind ≡ m.kind = message_same p kind m.kind j q.parts.of_kind h.parts.of_kind in

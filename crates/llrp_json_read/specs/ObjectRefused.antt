@@ -98,6 +98,10 @@ RefusesStart j r =
     (((n : ℕ) → SaysNumber Version (codes "version") j n → ⊥) × (r ≡ at_member (codes "version") reason.Value))
     ⊎ (((n : ℕ) × SaysNumber Version (codes "version") j n) × ((n : ℕ) → SaysNumber Id (codes "id") j n → ⊥) × (r ≡ at_member (codes "id") reason.Value))
 
+-- both are said
+abbrev pub SaysStart : Json → Type 0
+SaysStart j = ((n : ℕ) × SaysNumber Version (codes "version") j n) × ((n : ℕ) × SaysNumber Id (codes "id") j n)
+
 -- ---- parameters
 
 -- the first of some values, counted from a place, that is refused
@@ -171,11 +175,11 @@ RefusesOwnMessage p j r =
     RefusesKind p IsMessage (codes "message") j r
     ⊎ ((kind : MsgKind) × RefusesMembers p (Message kind) j r)
     ⊎ ((kind : MsgKind) × HasMembers p (Message kind) j × RefusesStart j r)
-    ⊎ ((kind : MsgKind) × HasMembers p (Message kind) j × RefusesValues (Message kind) j r)
+    ⊎ ((kind : MsgKind) × HasMembers p (Message kind) j × SaysStart j × RefusesValues (Message kind) j r)
 
 -- the value says no lawful message: its own parts, the parameters below it, and the tests of the tables
 abbrev pub RefusesMessage : KindSet → Json → Refused → Type 0
 RefusesMessage p j r =
     RefusesOwnMessage p j r
-    ⊎ ((kind : MsgKind) × (fields tail : List ℕ) × SaysParts p (Message kind) j fields tail × RefusesEach (SaysParameter p MAX_DEPTH) (RefusesParameter p MAX_DEPTH) 0 (below j) r)
+    ⊎ ((kind : MsgKind) × (fields tail : List ℕ) × SaysParts p (Message kind) j fields tail × SaysStart j × RefusesEach (SaysParameter p MAX_DEPTH) (RefusesParameter p MAX_DEPTH) 0 (below j) r)
     ⊎ ((kind : MsgKind) × RefusesWhole p kind j r)

@@ -9,6 +9,7 @@
 //! ```
 #![tactic(auto)]
 
+mod guess;
 mod in_memory;
 pub mod laws;
 mod line;
@@ -18,6 +19,7 @@ mod names;
 mod nodes;
 mod numbers;
 mod path;
+mod printed;
 mod refusal;
 mod rules;
 mod run;

@@ -12,8 +12,8 @@ ghost use Rattle.llrp_json_read.specs.Calls.ReadErrors.{IsReadErr};
 ghost use Rattle.llrp_json_read.specs.LinesRead.{EncodesLines, longest};
 ghost use Rattle.llrp_json_read.specs.Private.Lines.{EndsLine, EndsText, IsTooLong, IsTold, TakesPiece, Withdraws};
 
-use crate::line::encode_line;
 use crate::path::path_of;
+use crate::printed::{PrintedRoom, encode_any_line};
 use crate::refusal::{ReadErr, Reason, RefusedLine};
 use json::Scratch;
 use llrp_listing::{Pieces, ToolErr, hand_on, split_once};
@@ -87,6 +87,7 @@ fn numbered<'a>(alloc: Global, number: u64, error: ReadErr<'a>) -> TakeErr
 pub(crate) struct Lines {
     line: Vec<u8>,
     number: u64,
+    room: PrintedRoom,
     scratch: Scratch,
 }
 
@@ -99,6 +100,7 @@ impl Lines {
         Lines {
             line: Vec::new(alloc),
             number: 0,
+            room: PrintedRoom::new(alloc),
             scratch: Scratch::new(alloc),
         }
     }
@@ -139,10 +141,11 @@ impl Lines {
         ensures ended { EndsLine set limit self.old.line.items (self.old.number + 1)
             frames.old.items frames.new.items result }
     {
-        match encode_line(
+        match encode_any_line(
             alloc,
             set,
             self.line.as_slice(),
+            &mut self.room,
             &mut self.scratch,
             frames,
             limit,

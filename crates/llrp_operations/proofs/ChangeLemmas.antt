@@ -130,7 +130,7 @@ hear_keeps : (heard : Heard) (c : Course) → Knows c → Knows (hear heard c)
 hear_keeps (Accepts status) c k = accept_keeps c.stage status c k
 hear_keeps (Answers status) c k = answer_keeps c.stage status c k
 hear_keeps (Keepalive id) c k = acknowledged id c (stands c.stage) k
-hear_keeps (Sees epc) c k = seen_keeps epc.now c (looks c.stage && selects c.mask epc.now) k
+hear_keeps (Sees epc) c k = seen_keeps epc.now c (c.changes && (looks c.stage && selects c.mask epc.now)) k
 hear_keeps Results c k = finish_keeps c c.armed k
 
 settle_keeps : (c : Course) (b : Bool) → Knows c → Knows (if b then say AddAccess c else say RemoveAccess c)

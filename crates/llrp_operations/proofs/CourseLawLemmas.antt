@@ -168,9 +168,9 @@ noted_clean mask epc s c (Some first) changes own f = go (bytes_eq first epc)
     go true = clean mask (record c { stage = s }) changes own f
     go false = clean mask (record c { several = true; stage = s }) changes own f
 
-seen_keeps : (mask epc : List ℕ) (c : Course) (b : Bool) → (looks c.stage && selects c.mask epc) ≡ b → Holds mask c
+seen_keeps : (mask epc : List ℕ) (c : Course) (b : Bool) → (c.changes && (looks c.stage && selects c.mask epc)) ≡ b → Holds mask c
     → Holds mask (if b then record (noted epc c.seen c) { stage = settled c.stage } else c)
-seen_keeps mask epc c true is h = noted_clean mask epc (settled c.stage) c c.seen h.changes h.own (h.none (looks_early c.stage (both (looks c.stage) (selects c.mask epc) is).0))
+seen_keeps mask epc c true is h = noted_clean mask epc (settled c.stage) c c.seen h.changes h.own (h.none (looks_early c.stage (both (looks c.stage) (selects c.mask epc) (both c.changes (looks c.stage && selects c.mask epc) is).1).0))
 seen_keeps mask epc c false is h = h
 
 finished_keeps : (mask : List ℕ) (s : Stage) (c : Course) → Holds mask c → Holds mask (finished s c)
@@ -190,15 +190,17 @@ hear_keeps : (mask : List ℕ) (heard : Heard) (c : Course) → Holds mask c →
 hear_keeps mask (Accepts status) c h = accept_keeps mask c.stage status c refl h
 hear_keeps mask (Answers status) c h = answer_keeps mask c.stage status c refl h
 hear_keeps mask (Keepalive id) c h = acknowledged mask id c (stands c.stage) h
-hear_keeps mask (Sees epc) c h = seen_keeps mask epc.now c (looks c.stage && selects c.mask epc.now) refl h
+hear_keeps mask (Sees epc) c h = seen_keeps mask epc.now c (c.changes && (looks c.stage && selects c.mask epc.now)) refl h
 hear_keeps mask Results c h = finish_keeps mask c c.armed h
 
 -- ---- the time is over
 
-alone_is : (mask m : List ℕ) (o : Option (List ℕ)) (s : Bool) → m ≡ mask → is_alone m o s ≡ true → (epc : List ℕ) × (o ≡ Some epc) × (s ≡ false) × ((mask ≡ []) ⊎ (mask ≡ epc))
+alone_is : (mask m : List ℕ) (o : Option (List ℕ)) (s : Bool) → m ≡ mask → is_alone m o s ≡ true → (epc : List ℕ) × (o ≡ Some epc) × (s ≡ false) × (epc ≡ [] → ⊥) × ((mask ≡ []) ⊎ (mask ≡ epc))
 alone_is mask m None s own h = absurd (never h)
 alone_is mask m (Some epc) true own h = absurd (never h)
-alone_is mask m (Some epc) false own h = (epc, refl, refl, go (bytes_eq m []) refl h)
+alone_is mask m (Some epc) false own h =
+    let two = both (not (bytes_eq epc [])) (bytes_eq m [] || bytes_eq m epc) h in
+    (epc, refl, refl, λ e. absurd (apart (not (bytes_eq epc [])) (ap not ((bytes_eq-Decides epc []).1 e)) two.0), go (bytes_eq m []) refl two.1)
   where
     go : (b : Bool) → bytes_eq m [] ≡ b → (b || bytes_eq m epc) ≡ true → (mask ≡ []) ⊎ (mask ≡ epc)
     go true is t = inl (sym own ∙ (bytes_eq-Decides m []).0 is)

@@ -224,7 +224,7 @@ hear_keeps : (heard : Heard) (c : Course) → Holds c → Holds (hear heard c)
 hear_keeps (Accepts status) c h = accept_keeps c.stage status c refl h
 hear_keeps (Answers status) c h = answer_keeps c.stage status c refl h
 hear_keeps (Keepalive id) c h = acknowledged id c (stands c.stage) h
-hear_keeps (Sees epc) c h = seen_keeps epc.now c (looks c.stage && selects c.mask epc.now) h
+hear_keeps (Sees epc) c h = seen_keeps epc.now c (c.changes && (looks c.stage && selects c.mask epc.now)) h
 hear_keeps Results c h = finish_keeps c c.armed h
 
 -- ---- the time is over, or the connection lost

@@ -5,6 +5,7 @@ pub mod CourseLawLemmas
 pub mod DeletionLemmas
 pub mod LineLemmas
 pub mod ResultLemmas
+pub mod TargetLemmas
 pub mod TalkLemmas
 pub mod TurnLemmas
 pub mod VerifiedLemmas

@@ -1,22 +1,27 @@
 -- Results that say that their operations were done.
 use Rattle.std.proofs.Common.{◌≡◌, ◌∙◌, ℕ, zero, suc, List, [], ◌∷◌, Bool, true, false, if◌then◌else◌, ◌&&◌, ◌+◌, ◌≤◌, drop, length, nat_eq, refl, sym, subst, rules, filter, arith}
+use Rattle.std.proofs.lemmas.Bool.{eqb-true}
 use Rattle.std.proofs.lemmas.List.{at_drop_all}
 use Rattle.llrp_tree.specs.Tree.{Tree, trees}
 use Rattle.llrp_operations.specs.declared.operation.Operation.{Operation}
-use Rattle.llrp_operations.specs.Calls.Results.{are_of, is_none_left, is_result, say_done, says_done}
+use Rattle.llrp_operations.specs.Calls.Results.{are_of, field_at, is_none_left, is_parameter, is_result, is_whole, result_kind, say_clearly, say_done, says_done}
 use Rattle.llrp_operations.specs.Calls.Laws.{AreDone, IsDone, SaysWhatSucceeds}
 
 -- ---- one result
 
-is_done : (id : ℕ) (o : Operation) (t : Tree) → says_done id o t ≡ true → IsDone id o t
-is_done id o t h = record { kind = grind arith; success = grind arith; own = grind arith }
-
-done_is_said : (id : ℕ) (o : Operation) (t : Tree) → IsDone id o t → says_done id o t ≡ true
-done_is_said id o t d = let kind = d.kind in let success = d.success in let own = d.own in grind arith
-
 both : (a b : Bool) → (a && b) ≡ true → (a ≡ true) × (b ≡ true)
 both true b h = (refl, h)
 both false b h = absurd (search (rules, h))
+
+is_done : (id : ℕ) (o : Operation) (t : Tree) → says_done id o t ≡ true → IsDone id o t
+is_done id o t h =
+    let outer = both (is_parameter (result_kind o) t && nat_eq (field_at 1 t) id) (nat_eq (field_at 0 t) 0 && is_whole o t) h in
+    let named = both (is_parameter (result_kind o) t) (nat_eq (field_at 1 t) id) outer.0 in
+    let said = both (nat_eq (field_at 0 t) 0) (is_whole o t) outer.1 in
+    record { kind = named.0; success = eqb-true (field_at 0 t) 0 said.0; own = eqb-true (field_at 1 t) id named.1; whole = said.1 }
+
+done_is_said : (id : ℕ) (o : Operation) (t : Tree) → IsDone id o t → says_done id o t ≡ true
+done_is_said id o t d = let kind = d.kind in let success = d.success in let own = d.own in let whole = d.whole in grind arith
 
 -- ---- all results
 
@@ -105,6 +110,9 @@ left_is (o ∷ os) (suc k) h = left_is os k (omega (arith, h)) ∙ one_less k (l
 
 pub at_end : (os : List Operation) (ts : List Tree) (done i : ℕ) → length ts ≤ i → done ≤ length os → say_done 1 os ts ≡ say_done (done + 1) (drop done os) (drop i ts) → nat_eq done (length os) ≡ say_done 1 os ts
 at_end os ts done i past within h = sym (h ∙ at_drop_all (λ (x : List Tree). say_done (done + 1) (drop done os) x) ts i past ∙ left_is os done within)
+
+pub clear_at_end : (os : List Operation) (ts : List Tree) (done i : ℕ) → length ts ≤ i → done ≤ length os → say_clearly 1 os ts ≡ say_clearly (done + 1) (drop done os) (drop i ts) → nat_eq done (length os) ≡ say_clearly 1 os ts
+clear_at_end os ts done i past within h = sym (h ∙ at_drop_all (λ (x : List Tree). say_clearly (done + 1) (drop done os) x) ts i past ∙ left_is os done within)
 
 -- ---- the law
 

@@ -266,5 +266,6 @@ talks r begin end r0 r1 w0 w1 talked b c e =
       sends = c.sends;
       outcome_is = e.outcome ∙ ap (λ (x : Talk). outcome x.course) talk;
       report_is = e.report ∙ ap (λ (x : Talk). x.report) talk ∙ cut_report c.failed (stopped c.why last) ∙ stopped_report c.why last;
+      seen_is = e.seen ∙ ap (λ (x : Talk). x.course.seen) talk;
       cause_is = e.cause ∙ ap (λ (x : Talk). unwrap_or x.cause Read) talk;
     }

@@ -10,5 +10,7 @@ pub mod Messages
 pub mod Operations
 pub mod ResultNames
 pub mod Results
+pub mod TagNames
 pub mod Talking
+pub mod Targets
 pub mod Words

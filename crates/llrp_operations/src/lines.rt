@@ -1,10 +1,10 @@
 //! The lines of results.
 
-ghost use Rattle.std.specs.Prelude.{◌≡◌, ◌++◌, IfOk, OnOk};
+ghost use Rattle.std.specs.Prelude.{◌≡◌, ◌++◌, IfOk, OnOk, Some};
 ghost use Rattle.llrp_operations.specs.Calls.Lines as lines;
 ghost use Rattle.llrp_operations.specs.Calls.Words.{bank_name, field_name, manner_name};
 
-use crate::names::result_name;
+use crate::names::{has_name, result_name};
 use crate::operation::{LockField, LockManner, Operation};
 use crate::results::field_at;
 use llrp_listing::Text;
@@ -87,13 +87,26 @@ fn push_operation(text: &mut Text, operation: &Operation) -> Result<(), AllocErr
     }
 }
 
-/// The name of what became of an operation: that of its result, or that there is none.
-fn name_of<'a>(operation: &Operation, said: Option<&Node>) -> &'a str
-    ensures { result.now ≡ lines.name_of operation.now (lines.referred said.entry) }
+/// Appends the name of a result, and its number where it has no name.
+fn push_result(text: &mut Text, operation: &Operation, node: &Node) -> Result<(), AllocError>
+    ensures { OnOk result (text.new ≡ text.old ++ lines.name_of operation.now (Some node.now)) }
+{
+    let number = field_at(node, 0);
+    text.push_text(result_name(operation, number).as_bytes())?;
+    if !has_name(operation, number) {
+        text.push_text(b" ")?;
+        text.push_number(number)?;
+    }
+    Ok(())
+}
+
+/// Appends what became of an operation: the name of its result, or that there is none.
+fn push_name(text: &mut Text, operation: &Operation, said: Option<&Node>) -> Result<(), AllocError>
+    ensures { OnOk result (text.new ≡ text.old ++ lines.name_of operation.now (lines.referred said.entry)) }
 {
     match said {
-        Some(node) => result_name(operation, field_at(node, 0)),
-        None => "NoResult",
+        Some(node) => push_result(text, operation, node),
+        None => text.push_text(b"NoResult"),
     }
 }
 
@@ -119,31 +132,54 @@ fn push_words(text: &mut Text, before: &[u8], words: &[u8], after: &[u8]) -> Res
     text.push_text(after)
 }
 
-/// The line of an operation with its result, if it has one: what it does, the result's name, and the words
-/// that were read in hexadecimal digits.
+/// The line of an operation with its result, if it has one: the tag's name, what the operation does, the
+/// result's name, and the words that were read in hexadecimal digits.
 pub fn result_line(
     alloc: Global,
+    tag: &[u8],
     operation: &Operation,
     said: Option<&Node>,
 ) -> Result<Text, AllocError>
-    ensures { IfOk result (λ text. text ≡ lines.result_line operation.now (lines.referred said.entry)) }
+    ensures { IfOk result (λ text. text
+        ≡ lines.result_line tag.now operation.now (lines.referred said.entry)) }
 {
     let mut text = Text::new(alloc);
+    text.push_text(tag)?;
+    text.push_text(b" ")?;
     push_operation(&mut text, operation)?;
     text.push_text(b" ")?;
-    text.push_text(name_of(operation, said).as_bytes())?;
+    push_name(&mut text, operation, said)?;
     push_words(&mut text, b" ", words_of(said), b"")?;
     text.push_text(b"\n")?;
     Ok(text)
+}
+
+/// Appends the member of the tag's name.
+fn push_whose(text: &mut Text, tag: &[u8]) -> Result<(), AllocError>
+    ensures { OnOk result (text.new ≡ text.old ++ lines.whose tag.now) }
+{
+    text.push_text(b"{\"epc\":\"")?;
+    text.push_text(tag)?;
+    text.push_text(b"\"")?;
+    Ok(())
 }
 
 /// Appends the member of what an operation does.
 fn push_what(text: &mut Text, operation: &Operation) -> Result<(), AllocError>
     ensures { OnOk result (text.new ≡ text.old ++ lines.what operation.now) }
 {
-    text.push_text(b"{\"operation\":\"")?;
+    text.push_text(b",\"operation\":\"")?;
     push_operation(text, operation)?;
     text.push_text(b"\"")?;
+    Ok(())
+}
+
+/// Appends both.
+fn push_head(text: &mut Text, tag: &[u8], operation: &Operation) -> Result<(), AllocError>
+    ensures { OnOk result (text.new ≡ text.old ++ lines.head tag.now operation.now) }
+{
+    push_whose(text, tag)?;
+    push_what(text, operation)?;
     Ok(())
 }
 
@@ -156,7 +192,7 @@ fn push_called(
     ensures { OnOk result (text.new ≡ text.old ++ lines.called operation.now (lines.referred said.entry)) }
 {
     text.push_text(b",\"result\":\"")?;
-    text.push_text(name_of(operation, said).as_bytes())?;
+    push_name(text, operation, said)?;
     text.push_text(b"\"")?;
     Ok(())
 }
@@ -164,13 +200,15 @@ fn push_called(
 /// The same as an object of JSON.
 pub fn result_object(
     alloc: Global,
+    tag: &[u8],
     operation: &Operation,
     said: Option<&Node>,
 ) -> Result<Text, AllocError>
-    ensures { IfOk result (λ text. text ≡ lines.result_object operation.now (lines.referred said.entry)) }
+    ensures { IfOk result (λ text. text
+        ≡ lines.result_object tag.now operation.now (lines.referred said.entry)) }
 {
     let mut text = Text::new(alloc);
-    push_what(&mut text, operation)?;
+    push_head(&mut text, tag, operation)?;
     push_called(&mut text, operation, said)?;
     push_words(&mut text, b",\"words\":\"", words_of(said), b"\"")?;
     text.push_text(b"}\n")?;

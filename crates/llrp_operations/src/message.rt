@@ -17,6 +17,9 @@ use llrp_session::{field, first};
 use llrp_tree::{Message, MsgKind, Node, Nodes, ParamKind};
 use std::alloc::{AllocError, Global};
 
+/// The most bits that an EPC has.
+const MOST_BITS: u128 = 496;
+
 /// The id of the message of a demand.
 fn demand_id(demand: Demand) -> u32
     ensures { result ≡ messages.demand_id demand }
@@ -179,8 +182,20 @@ fn attempt_in(message: &Message) -> Option<u16>
     Some(field(kind, Some(attempt), 0).min(65_535) as u16)
 }
 
-/// The octets of a tag's EPC; none if its report has no EPC.
-fn epc_of(alloc: Global, tag: &Node) -> Result<Vec<u8>, AllocError>
+/// The octets by which an EPC of this many bits names its tag.
+fn named(alloc: Global, bits: u128, octets: &[u8]) -> Result<Vec<u8>, AllocError>
+    ensures { IfOk result (λ epc. epc.items ≡ messages.named bits octets.now) }
+{
+    if bits % 16 == 0 && bits <= MOST_BITS {
+        octets.to_vec(alloc)
+    } else {
+        Ok(Vec::new(alloc))
+    }
+}
+
+/// The octets of a tag's EPC; none if its report has none by which the tag can be named: none of whole words,
+/// or one of more than 31.
+pub fn epc_of(alloc: Global, tag: &Node) -> Result<Vec<u8>, AllocError>
     ensures { IfOk result (λ epc. epc.items ≡ messages.epc_in (trees tag.now.children)) }
 {
     for node in tag.children().as_slice() {
@@ -189,7 +204,7 @@ fn epc_of(alloc: Global, tag: &Node) -> Result<Vec<u8>, AllocError>
             return octets[4..].to_vec(alloc);
         }
         if is_parameter(ParamKind::WholeEpcData, node) {
-            return node.tail().as_slice().to_vec(alloc);
+            return named(alloc, field_at(node, 0), node.tail().as_slice());
         }
     }
     Ok(Vec::new(alloc))

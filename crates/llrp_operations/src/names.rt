@@ -66,3 +66,13 @@ pub fn result_name(operation: &Operation, number: u128) -> &'static str
         Operation::Lock { .. } => lock_name(number),
     }
 }
+
+/// Whether the standard has this number of a Result.
+pub(crate) fn has_name(operation: &Operation, number: u128) -> bool
+    ensures { result ≡ names.has_name operation.now number }
+{
+    match operation {
+        Operation::Read { .. } => number <= 6,
+        Operation::Write { .. } | Operation::Lock { .. } => number <= 7,
+    }
+}

@@ -11,7 +11,7 @@ use std::alloc::{AllocError, AllocFailed, Global};
 /// Why there is no AccessSpec.
 #[derive(Clone, Copy, Debug, PartialEq, Eq)]
 pub enum SpecErr {
-    /// The EPC has more than 62 octets.
+    /// The EPC has more than 62 octets, or is not of whole words.
     Epc,
     /// There are more than 65,535 operations.
     Operations,

@@ -15,7 +15,11 @@ pub const LONGEST_EPC: usize = 62;
 /// The most operations of a request.
 pub const MOST_OPERATIONS: usize = 65_535;
 
-/// The bit of the EPC bank at which the EPC begins, after the checksum and the protocol control word.
+/// The bit of the EPC bank at which the protocol control word begins, after the checksum; its five highest
+/// bits count the words of the EPC (EPC C1G2).
+const LENGTH_POINTER: u128 = 16;
+
+/// The bit of the EPC bank at which the EPC begins, after the protocol control word.
 const EPC_POINTER: u128 = 32;
 
 /// What is asked of a reader, and of which tag.
@@ -34,8 +38,31 @@ pub struct Request<'a> {
     pub operations: &'a [Operation],
 }
 
-/// The tail of a C1G2TargetTag for tags with this EPC: a mask of ones, how many bits the EPC has, and the
-/// EPC.
+/// A C1G2TargetTag for the EPC bank, from a bit on, with a mask of this many bits.
+fn target(alloc: Global, pointer: u128, count: u128, tail: Vec<u8>) -> Result<Node, SpecErr>
+    ensures { IfOk result (λ node. node ≡ operations.target pointer count tail.items) }
+{
+    let fields = [1, 1, pointer, count];
+    parameter(
+        ParamKind::WholeC1G2TargetTag,
+        &fields,
+        tail,
+        Vec::new(alloc),
+    )
+}
+
+/// The C1G2TargetTag for tags whose EPC is as long as this one.
+fn length_target(alloc: Global, epc: &[u8]) -> Result<Node, SpecErr>
+    requires { length epc.now ≤ LONGEST_EPC }
+    ensures { IfOk result (λ node. node ≡ operations.length_target epc.now) }
+{
+    let words = 4 * epc.len() as u8;
+    let tail = Vec::from_array(alloc, [0xF8, 0, 5, words])?;
+    target(alloc, LENGTH_POINTER, 5, tail)
+}
+
+/// The tail of a C1G2TargetTag for tags whose EPC begins with this one: a mask of ones, how many bits the EPC
+/// has, and the EPC.
 fn target_tail(alloc: Global, epc: &[u8]) -> Result<Vec<u8>, SpecErr>
     requires { length epc.now ≤ LONGEST_EPC }
     ensures { IfOk result (λ tail. tail.items ≡ operations.target_tail epc.now) }
@@ -48,21 +75,25 @@ fn target_tail(alloc: Global, epc: &[u8]) -> Result<Vec<u8>, SpecErr>
     Ok(tail)
 }
 
-/// The C1G2TagSpec for tags with this EPC.
+/// The C1G2TargetTag for tags whose EPC begins with this one.
+fn epc_target(alloc: Global, epc: &[u8]) -> Result<Node, SpecErr>
+    requires { length epc.now ≤ LONGEST_EPC }
+    ensures { IfOk result (λ node. node ≡ operations.epc_target epc.now) }
+{
+    let tail = target_tail(alloc, epc)?;
+    target(alloc, EPC_POINTER, 8 * epc.len() as u128, tail)
+}
+
+/// The C1G2TagSpec for tags with this EPC, or with one of no octets for any tag.
 fn tag_spec(alloc: Global, epc: &[u8]) -> Result<Node, SpecErr>
     requires { length epc.now ≤ LONGEST_EPC }
     ensures { IfOk result (λ node. node ≡ operations.tag_spec epc.now) }
 {
-    let bits = 8 * epc.len() as u128;
-    let fields = [1, 1, EPC_POINTER, bits];
-    let tail = target_tail(alloc, epc)?;
-    let target = parameter(
-        ParamKind::WholeC1G2TargetTag,
-        &fields,
-        tail,
-        Vec::new(alloc),
-    )?;
-    let targets = Vec::from_array(alloc, [target])?;
+    let mut targets = Vec::new(alloc);
+    if !epc.is_empty() {
+        targets.push(length_target(alloc, epc)?)?;
+    }
+    targets.push(epc_target(alloc, epc)?)?;
     parameter(ParamKind::WholeC1G2TagSpec, &[], Vec::new(alloc), targets)
 }
 
@@ -138,17 +169,18 @@ fn access_command(alloc: Global, request: Request<'_>) -> Result<Node, SpecErr>
     parameter(ParamKind::WholeAccessCommand, &[], Vec::new(alloc), parts)
 }
 
-/// The AccessSpec of a request. It is disabled at first, is for C1G2 tags that have the EPC in whole, ends
+/// The AccessSpec of a request. It is disabled at first, is for C1G2 tags whose whole EPC is this one, ends
 /// after the first of them, and is reported with the tag. The OpSpecIDs of its operations count from 1. The
-/// errors are `Epc` and `Operations` for more of them than an AccessSpec can have, the first fault of a
-/// parameter, as of an AccessSpec without an operation, and `Memory`.
+/// errors are `Epc` for an EPC of more than [`LONGEST_EPC`] octets, or of no whole words; `Operations` for
+/// more of them than an AccessSpec can have; the first fault of a parameter, as of an AccessSpec without an
+/// operation; and `Memory`.
 pub fn access_spec(alloc: Global, request: Request<'_>) -> Result<Node, SpecErr>
     ensures spec { IfOk result (λ node. node ≡ operations.access_spec request.entry) }
-    ensures epc { LONGEST_EPC < length request.entry.epc.now → result ≡ Err SpecErr.Epc }
-    ensures operations { length request.entry.epc.now ≤ LONGEST_EPC
+    ensures epc { operations.IsNoEpc request.entry.epc.now → result ≡ Err SpecErr.Epc }
+    ensures operations { (operations.IsNoEpc request.entry.epc.now → ⊥)
         → MOST_OPERATIONS < length request.entry.operations.now → result ≡ Err SpecErr.Operations }
 {
-    if request.epc.len() > LONGEST_EPC {
+    if request.epc.len() > LONGEST_EPC || request.epc.len() % 2 != 0 {
         return Err(SpecErr::Epc);
     }
     if request.operations.len() > MOST_OPERATIONS {
@@ -162,6 +194,3 @@ pub fn access_spec(alloc: Global, request: Request<'_>) -> Result<Node, SpecErr>
     let fields = [request.id as u128, antenna, 1, 0, request.rospec as u128];
     parameter(ParamKind::WholeAccessSpec, &fields, Vec::new(alloc), parts)
 }
-
-#[cfg(test)]
-mod tests;

@@ -30,6 +30,8 @@ pub struct Talked {
     pub outcome: Outcome,
     /// The message that brought the results, if they came.
     pub report: Option<Message>,
+    /// The EPC of the tag that was seen before a change, if one was.
+    pub seen: Option<Vec<u8>>,
     /// Why the connection was lost, if it was.
     pub cause: ToolErr,
 }

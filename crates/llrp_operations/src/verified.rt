@@ -2,11 +2,13 @@
 
 ghost use Rattle.std.specs.Prelude.{◌≡◌, ◌++◌, IfOk, drop, filter, length};
 ghost use Rattle.std.specs.Str.{bytes_eq};
-ghost use Rattle.llrp_operations.specs.Calls.Changes.{IsHeadAt, is_done, is_verified};
+ghost use Rattle.llrp_operations.specs.Calls.Changes.{IsHeadAt, is_done, is_meant, is_verified};
+ghost use Rattle.llrp_operations.specs.Calls.Messages.{epc_in};
 ghost use Rattle.llrp_operations.specs.Calls.Operations.{words_octets as the_octets};
 ghost use Rattle.llrp_operations.specs.Calls.Results as results;
 ghost use Rattle.llrp_tree.specs.Tree.{trees};
 
+use crate::message::epc_of;
 use crate::operation::Operation;
 use crate::parameters::{SpecErr, words_octets};
 use crate::results::{has_succeeded, is_result};
@@ -65,20 +67,43 @@ fn are_verified(alloc: Global, operations: &[Operation], tag: &Node) -> Result<b
     Ok(true)
 }
 
-/// Whether TagReportData says that the AccessSpec with this id did all that was asked for. `sent` are its
-/// operations: those asked for, and where it verifies, their checks ([`crate::with_checks`]), whose words
-/// then have to be those that were written. The error is that memory ran out.
+/// The tag that an AccessSpec is for.
+#[derive(Clone, Copy)]
+pub struct Meant<'a> {
+    /// Its EPC; of no octets for any tag.
+    pub epc: &'a [u8],
+    /// The EPC that it is to be given; of no octets where it keeps its own.
+    pub given: &'a [u8],
+}
+
+/// Whether TagReportData is of the tag that is meant, by its EPC or by the one that it was to be given.
+pub fn is_meant(alloc: Global, meant: Meant<'_>, tag: &Node) -> Result<bool, SpecErr>
+    ensures { IfOk result (λ is. is
+        ≡ is_meant meant.entry.epc.now meant.entry.given.now (epc_in (trees tag.now.children))) }
+{
+    let epc = epc_of(alloc, tag)?;
+    let epc = epc.as_slice();
+    let is_given = !meant.given.is_empty() && epc == meant.given;
+    Ok(meant.epc.is_empty() || epc == meant.epc || is_given)
+}
+
+/// Whether TagReportData says that the AccessSpec with this id did all that was asked for, to the tag that is
+/// meant. `sent` are its operations: those asked for, and where it verifies, their checks
+/// ([`crate::with_checks`]), whose words then have to be those that were written. The error is that memory
+/// ran out.
 pub fn is_done(
     alloc: Global,
     id: u32,
     asked: &[Operation],
     sent: &[Operation],
     verifies: bool,
+    meant: Meant<'_>,
     tag: &Node,
 ) -> Result<bool, SpecErr>
-    ensures { IfOk result (λ is. is ≡ is_done verifies id asked.now sent.now tag.now) }
+    ensures { IfOk result (λ is. is ≡ is_done verifies id asked.now sent.now meant.entry.epc.now
+        meant.entry.given.now tag.now) }
 {
-    if !has_succeeded(id, sent, tag) {
+    if !is_meant(alloc, meant, tag)? || !has_succeeded(id, sent, tag) {
         return Ok(false);
     }
     if verifies {

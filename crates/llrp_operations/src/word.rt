@@ -220,6 +220,3 @@ pub fn lock_of(text: &[u8]) -> Result<Operation, WordErr>
     };
     Ok(Operation::Lock { field, manner })
 }
-
-#[cfg(test)]
-mod tests;

@@ -11,7 +11,7 @@ pub use llrp_commands::{
 pub use llrp_endpoints::{
     Action, Endpoint, Entry, Gathering, LineForm, Plan, PlanErr, PlanFault, Script, Serving,
     Sighting, Summary, checked_plan, own_message, run_inventory, run_loop, run_serve,
-    run_serve_all, standard_plan,
+    standard_plan,
 };
 pub use llrp_listing::{
     Refusal, ToolErr, Verdict, bytes_of_hex, read_all, run_encode, run_encode_in, run_epc,

@@ -57,7 +57,7 @@ pub trait Scheme {
 const COMPANY_BITS: [u32; 7] = [40, 37, 34, 30, 27, 24, 20];
 
 /// The row of a partition value, from the bits and digits of a scheme's references.
-fn row_of(partition: u8, bits: &[u32; 7], digits: &[u32; 7]) -> Option<Row>
+pub fn row_of(partition: u8, bits: &[u32; 7], digits: &[u32; 7]) -> Option<Row>
     ensures { result ≡ slice_get (partition_table bits.now digits.now) partition }
 {
     let at = partition as usize;

@@ -18,8 +18,6 @@ mod asset;
 mod components;
 mod coupon;
 mod digits;
-#[cfg(test)]
-mod examples;
 mod from_company;
 mod id_name;
 mod key_start;

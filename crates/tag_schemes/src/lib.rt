@@ -13,8 +13,6 @@
 #![tactic(auto)]
 
 mod all_texts;
-mod components;
-mod decimal;
 mod fault;
 pub mod laws;
 mod numbers;

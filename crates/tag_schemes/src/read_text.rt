@@ -13,17 +13,15 @@ ghost use Rattle.tag_schemes.specs.Texts.{asset_rules, components_in, one_before
 ghost use Rattle.tag_schemes.specs.AllTexts.{BeginsIn};
 ghost use Rattle.tag_schemes.specs.declared.scheme.Scheme.{Scheme};
 
-use crate::components::{four, three};
-use crate::decimal::{number_below, number_of};
 use crate::numbers::Numbers;
-use crate::rules::{
-    has_wrong_length, is_no_filter, is_one_no_number, is_one_no_number_of_four, is_one_zero_led,
-    is_zero_led,
-};
+use crate::rules::{has_wrong_length, is_one_no_number, is_one_no_number_of_four, is_one_zero_led};
 use crate::scheme::Scheme;
 use arrayvec::ArrayString;
 use tag_epc::Parts;
 use tag_epc::scheme::power;
+use tag_uri::components::{four, three};
+use tag_uri::decimal::{number_below, number_of};
+use tag_uri::rules::{is_no_filter, is_zero_led};
 use tag_uri::{UriFault, parse};
 
 /// The further scheme with a company prefix with whose tag URIs a text begins, and what follows its colon.

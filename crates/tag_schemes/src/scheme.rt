@@ -1,10 +1,10 @@
 //! The further schemes with a company prefix, and their rows.
 
-ghost use Rattle.std.specs.Prelude.{◌≡◌, ◌≢◌, MatchOption, slice_get};
-ghost use Rattle.tag_epc.specs.Layout.{partition_table, row_at};
+ghost use Rattle.std.specs.Prelude.{◌≡◌, ◌≢◌, MatchOption};
+ghost use Rattle.tag_epc.specs.Layout.{row_at};
 ghost use Rattle.tag_schemes.specs.Schemes.{layout_in};
 
-use tag_epc::scheme::Row;
+use tag_epc::scheme::{Row, row_of};
 
 /// The further schemes of 96-bit EPCs with a company prefix (EPC Tag Data Standard 1.13, section 14.2).
 #[derive(Clone, Copy, PartialEq, Eq, Debug)]
@@ -17,25 +17,6 @@ pub enum Scheme {
     Sgcn,
     /// Components and parts, CPI-96.
     Cpi,
-}
-
-/// Bits of the company prefix by partition value, the same in each scheme.
-const COMPANY_BITS: [u32; 7] = [40, 37, 34, 30, 27, 24, 20];
-
-/// The row of a partition value, from the bits and digits of a scheme's references.
-fn row_of(partition: u8, bits: &[u32; 7], digits: &[u32; 7]) -> Option<Row>
-    ensures { result ≡ slice_get (partition_table bits.now digits.now) partition }
-{
-    let at = partition as usize;
-    if at > 6 {
-        return None;
-    }
-    Some(Row {
-        company_bits: COMPANY_BITS[at],
-        company_digits: 12 - partition as u32,
-        reference_bits: bits[at],
-        reference_digits: digits[at],
-    })
 }
 
 impl Scheme {

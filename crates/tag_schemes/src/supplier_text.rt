@@ -6,8 +6,6 @@ ghost use Rattle.tag_schemes.specs.AllTexts.{BeginsAsSupplier};
 ghost use Rattle.tag_schemes.specs.Suppliers.{code_text, supplier_components, supplier_uri, IsSupplier, MayStand};
 ghost use Rattle.tag_schemes.specs.SupplierRules.{is_no_code as no_code, HasSupplierTextFault};
 
-use crate::components::three;
-use crate::decimal::number_below;
 use crate::fault::SchemeFault;
 use crate::rules::{is_one_no_number_of_two, is_one_zero_led};
 use crate::supplier::{Supplier, is_code_character};
@@ -15,6 +13,8 @@ use crate::write_text::push_short;
 use arrayvec::ArrayString;
 use std::str;
 use tag_uri::UriFault;
+use tag_uri::components::three;
+use tag_uri::decimal::number_below;
 
 /// Appends a code without the space before it.
 fn push_code(text: &mut ArrayString<64>, code: &[u8; 6])

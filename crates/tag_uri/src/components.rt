@@ -16,7 +16,7 @@ fn cut<'a>(text: &'a str) -> (&'a str, Option<&'a str>)
 }
 
 /// The components of a text that has three.
-pub(crate) fn three<'a>(text: &'a str) -> Option<(&'a str, &'a str, &'a str)>
+pub fn three<'a>(text: &'a str) -> Option<(&'a str, &'a str, &'a str)>
     ensures some { IfSome result (λ x. components text.now ≡ x.0.now ∷ x.1.now ∷ x.2.now ∷ []) }
     ensures none { IfNone result (length (components text.now) ≢ 3) }
 {
@@ -33,7 +33,7 @@ pub(crate) fn three<'a>(text: &'a str) -> Option<(&'a str, &'a str, &'a str)>
 }
 
 /// The components of a text that has four.
-pub(crate) fn four<'a>(text: &'a str) -> Option<(&'a str, &'a str, &'a str, &'a str)>
+pub fn four<'a>(text: &'a str) -> Option<(&'a str, &'a str, &'a str, &'a str)>
     ensures some { IfSome result (λ x. components text.now ≡ x.0.now ∷ x.1.now ∷ x.2.now
         ∷ x.3.now ∷ []) }
     ensures none { IfNone result (length (components text.now) ≢ 4) }

@@ -5,7 +5,7 @@ ghost use Rattle.tag_uri.specs.Calls.Decimal.{AreDigits};
 ghost use Rattle.tag_uri.specs.Decimal.{decimal_value, padded};
 
 /// The number of a text of digits, if it has at most `width` bits.
-pub(crate) fn number_below(text: &str, width: u32) -> Option<u64>
+pub fn number_below(text: &str, width: u32) -> Option<u64>
     requires digits { AreDigits text.now }
     requires some { 0 < length text.now }
     requires narrow { width < 64 }
@@ -23,7 +23,7 @@ pub(crate) fn number_below(text: &str, width: u32) -> Option<u64>
 }
 
 /// The number of at most twelve digits; 0 of an empty text.
-pub(crate) fn number_of(text: &str) -> u64
+pub fn number_of(text: &str) -> u64
     requires digits { AreDigits text.now }
     requires short { length text.now ≤ 12 }
     ensures padded { text.now ≡ padded (length text.now) result }

@@ -12,8 +12,8 @@
 //! ```
 #![tactic(auto)]
 
-mod components;
-mod decimal;
+pub mod components;
+pub mod decimal;
 mod fault;
 mod gid;
 pub mod laws;
@@ -24,7 +24,7 @@ mod print_uri;
 mod put_digits;
 mod raw_uri;
 mod read_digits;
-mod rules;
+pub mod rules;
 mod scheme;
 mod word_text;
 

@@ -18,21 +18,21 @@ pub(crate) fn is_strange(text: &str) -> bool
 }
 
 /// Whether a text has a character other than 0 to 9, or is empty.
-pub(crate) fn is_stray(text: &str) -> bool
+pub fn is_stray(text: &str) -> bool
     ensures { result ≡ (strange text.now || (length text.now == 0)) }
 {
     is_strange(text) || text.is_empty()
 }
 
 /// Whether a text has two or more characters and begins with 0.
-pub(crate) fn is_zero_led(text: &str) -> bool
+pub fn is_zero_led(text: &str) -> bool
     ensures { result ≡ zero_led text.now }
 {
     text.len() > 1 && text.as_bytes()[0] == b'0'
 }
 
 /// Whether a text is anything but one digit from 0 to 7.
-pub(crate) fn is_no_filter(text: &str) -> bool
+pub fn is_no_filter(text: &str) -> bool
     ensures { result ≡ no_filter text.now }
 {
     text.len() != 1 || text.as_bytes()[0] > b'7'

@@ -1,7 +1,7 @@
 //! A client and a simulated reader at the two ends of one connection.
 
-use crate::gathering::{ADD, CONNECTED};
 use crate::inventory::inventory_of;
+use crate::run::{ADD, CONNECTED};
 use llrp_session::Reader;
 use llrp_tool::{
     Endpoint, Input, Output, Plan, Script, Summary, ToolErr, checked_plan, run_loop, standard_plan,

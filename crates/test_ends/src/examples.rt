@@ -1,7 +1,7 @@
 //! The examples of the libraries of the two ends, and of the command line.
 
-use crate::gathering::{CONNECTED, DOWN, LINES};
-use crate::serve::{ADD, ADDED, ENABLE, ENABLED, START, STOP};
+use crate::run::{CONNECTED, DOWN, LINES};
+use crate::served::{ADD, ADDED, ENABLE, ENABLED, START, STOP};
 use llrp_keys::run_answer;
 use llrp_listing::Verdict;
 use llrp_session::{Client, CmdFault, CmdRefusal, Command, Reader, TakeFault, TakeRefusal, Taken};

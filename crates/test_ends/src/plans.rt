@@ -3,7 +3,7 @@
 
 ghost use Rattle.std.specs.Prelude.{◌≤◌};
 
-use crate::gathering::CONNECTED;
+use crate::run::CONNECTED;
 use llrp_tool::{Gathering, Plan, PlanErr, PlanFault, Refusal, ToolErr, standard_plan};
 use llrp_tree::{KindSet, Node, NodeFault};
 use std::alloc::Global;

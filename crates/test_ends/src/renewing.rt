@@ -1,7 +1,7 @@
 //! Plans that delete the reader's ROSpec of their own id first, whatever the reader answers, and plans that
 //! do nothing else.
 
-use crate::gathering::CONNECTED;
+use crate::run::CONNECTED;
 use llrp_tool::{Gathering, Plan, ToolErr, standard_plan};
 use llrp_tree::KindSet;
 use std::alloc::Global;

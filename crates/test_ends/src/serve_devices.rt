@@ -1,6 +1,6 @@
 //! Serving over sources and sinks that fail in mid-stream.
 
-use crate::serve::{ADD, ADDED, CONNECTED, ENABLE, ENABLED};
+use crate::served::{ADD, ADDED, CONNECTED, ENABLE, ENABLED};
 use llrp_session::Reader;
 use llrp_stream::Output;
 use llrp_tool::{Input, Script, ToolErr, run_serve};

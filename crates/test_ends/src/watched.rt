@@ -1,6 +1,6 @@
 //! A client that runs day and night: lines with the host's time, what is odd, and the end of the time.
 
-use crate::gathering::{CONNECTED, ENABLE};
+use crate::run::{CONNECTED, ENABLE};
 use llrp_endpoints::{TagLister, Watcher, marked_lines, run_watching};
 use llrp_listing::Text;
 use llrp_tool::{Gathering, LineForm, Output, Plan, Summary, ToolErr, standard_plan};

@@ -7,10 +7,12 @@ ghost use Rattle.std.specs.Prelude.{◌≡◌, [], None, Some};
 ghost use Rattle.llrp_stream.specs.Calls.Device.{new_sink, new_source};
 
 use crate::tally::{Tally, is_front};
+use llrp_answers::Answers;
+use llrp_general::run_serve_whole;
 use llrp_session::Reader;
 use llrp_tool::{
     Endpoint, LIMIT, Plan, Script, Sink, Source, ToolErr, bytes_of_hex, run_inventory, run_loop,
-    run_serve, run_serve_all, standard_plan,
+    run_serve, standard_plan,
 };
 use std::alloc::Global;
 use test_devices::{Dripping, Failure, NEVER, THREE_LINES, THREE_SIGHTINGS, Taking};
@@ -28,7 +30,7 @@ const ASKED: &[u8] = b"082E0000000A00000007 0402000000110000000600000000000000";
 const GREETING: &[u8] = b"043F0000002000000001 00F60016 0080000C0000000000000000 010000060000";
 
 /// What a general client is answered.
-const TOLD: &[u8] = b"083800000014000000070202 011F000800000000
+const TOLD: &[u8] = b"083800000014000000070102 011F000800000000
     040C0000003300000006 011F000800000000 00DA000F0000080000000000000000 00DD00098000010000 00DD00098000020000";
 
 /// What the reader sends in the first exchange after its greeting.
@@ -213,7 +215,15 @@ impl Ways {
         let mut sink = fails.sink(alloc, Device::ReaderSink);
         let core = Reader::new(alloc, LIMIT, 1);
         let end = if all {
-            run_serve_all(alloc, core, script, &mut source, &mut sink)
+            run_serve_whole(
+                alloc,
+                core,
+                script,
+                Answers::new(alloc),
+                &mut source,
+                &mut sink,
+            )
+            .0
         } else {
             run_serve(alloc, core, script, &mut source, &mut sink)
         };

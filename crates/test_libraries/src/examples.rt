@@ -4,6 +4,7 @@
 mod access;
 mod asking;
 mod captures;
+mod labels;
 mod messages;
 mod part_counter;
 mod streams;

@@ -5,7 +5,7 @@ use Rattle.llrp_stream.specs.Calls.Device.{new_sink, new_source}
 use Rattle.llrp_listing.specs.declared.outcome.ToolErr.TheVariants.{Peer}
 use Rattle.llrp_commands.specs.Calls.Command.{error_line, error_status}
 use Rattle.llrp_operations.specs.declared.access.Ending.{Ending}
-use Rattle.llrp_operations.specs.declared.access.Ending.TheVariants.{Done, Undone, Refused, Several, NoTag, Unknown, Broken}
+use Rattle.llrp_operations.specs.declared.access.Ending.TheVariants.{Done, Undone, Refused, Several, NoEpc, NoTag, Unknown, Broken}
 use Rattle.llrp_operations.specs.declared.access.Errand.{Errand}
 use Rattle.llrp_operations.specs.Calls.Access.{Accesses}
 
@@ -19,6 +19,7 @@ ending_status Done = 0
 ending_status Undone = 1
 ending_status (Refused status) = 1
 ending_status Several = 1
+ending_status NoEpc = 1
 ending_status NoTag = 1
 ending_status Unknown = 4
 ending_status (Broken cause) = error_status cause
@@ -29,6 +30,7 @@ ending_line Done = []
 ending_line Undone = codes "llrp: not done\n"
 ending_line (Refused status) = error_line (Peer status)
 ending_line Several = codes "llrp: several tags\n"
+ending_line NoEpc = codes "llrp: no epc\n"
 ending_line NoTag = codes "llrp: no tag\n"
 ending_line Unknown = codes "llrp: unknown, read again\n"
 ending_line (Broken cause) = error_line cause

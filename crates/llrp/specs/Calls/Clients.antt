@@ -7,7 +7,7 @@ use Rattle.llrp_listing.specs.declared.outcome.ToolErr.{ToolErr}
 use Rattle.llrp_listing.specs.declared.outcome.ToolErr.TheVariants.{Memory}
 use Rattle.llrp_listing.specs.Calls.Copying.{Writes}
 use Rattle.llrp_endpoints.specs.declared.script.Entry.{Entry}
-use Rattle.llrp_commands.specs.declared.arguments.sim_words.SimWords.{SimWords}
+use Rattle.llrp_words.specs.declared.arguments.sim_words.SimWords.{SimWords}
 use Rattle.llrp_endpoints.specs.Calls.ReadScript.{ReadsScript}
 use Rattle.llrp.specs.Calls.Network.{Concludes, Serves}
 

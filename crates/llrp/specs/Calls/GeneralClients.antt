@@ -10,7 +10,7 @@ use Rattle.llrp_answers.specs.Calls.Answers.{IsFile}
 use Rattle.llrp_endpoints.specs.declared.script.Entry.{Entry}
 use Rattle.llrp_endpoints.specs.Calls.ReadScript.{ReadsScript}
 use Rattle.llrp_general.specs.Calls.Serving.{RunsServeAmong, setting}
-use Rattle.llrp_commands.specs.declared.arguments.sim_words.SimWords.{SimWords}
+use Rattle.llrp_words.specs.declared.arguments.sim_words.SimWords.{SimWords}
 use Rattle.llrp_commands.specs.declared.command.TheConstants.{LIMIT}
 use Rattle.llrp.specs.declared.network.TheConstants.{FIRST_ID}
 use Rattle.llrp.specs.Calls.Network.{Concludes}

@@ -12,7 +12,7 @@ use Rattle.llrp_endpoints.specs.Plan.{Plan}
 use Rattle.llrp_endpoints.specs.Watching.{RunsWatching, Turn}
 use Rattle.llrp_labels.specs.declared.labels.Labels.{Labels}
 use Rattle.llrp_labels.specs.LabelledTags.{AreLabelledTags}
-use Rattle.llrp_commands.specs.declared.arguments.label_words.LabelWords.{LabelWords}
+use Rattle.llrp_words.specs.declared.arguments.label_words.LabelWords.{LabelWords}
 use Rattle.llrp.specs.Calls.Network.{Concludes, MayEnd, unnumbered}
 
 -- the labels that the words ask for, of which a word for the schemes is that for all; none where they ask for none

@@ -16,7 +16,7 @@ use Rattle.llrp_endpoints.specs.Calls.Plans.{standard}
 use Rattle.llrp_endpoints.specs.Calls.PlanTexts.{ListsRoSpec, RefusesPlan, given_in}
 use Rattle.llrp_endpoints.specs.Calls.ReadRoSpec.{IsEnough}
 use Rattle.llrp_commands.specs.Calls.Command.{error_line, refusal_line}
-use Rattle.llrp_commands.specs.declared.arguments.PlanWords.{PlanWords}
+use Rattle.llrp_words.specs.declared.arguments.PlanWords.{PlanWords}
 use Rattle.llrp.specs.declared.plan.NoPlan.{NoPlan}
 use Rattle.llrp.specs.declared.plan.NoPlan.TheVariants.{Unread, Line, Memory}
 

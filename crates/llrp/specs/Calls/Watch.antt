@@ -22,7 +22,7 @@ use Rattle.llrp_labels.specs.declared.labels.Labels.{Labels}
 use Rattle.llrp_power.specs.declared.capabilities.Transmitter.{Transmitter}
 use Rattle.llrp_json.specs.Calls.PieceLines.{HasListed, Listing}
 use Rattle.llrp_stream.specs.Calls.Frames.{limit_of}
-use Rattle.llrp_commands.specs.declared.arguments.watch_words.WatchWords.{WatchWords}
+use Rattle.llrp_words.specs.declared.arguments.watch_words.WatchWords.{WatchWords}
 use Rattle.llrp.specs.declared.plan.NoPlan.{NoPlan}
 use Rattle.llrp.specs.declared.plan.NoPlan.TheVariants.{Line, Memory, Unread}
 use Rattle.llrp.specs.declared.watch.TheConstants.{MOST_OCTETS}

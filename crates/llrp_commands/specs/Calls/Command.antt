@@ -1,5 +1,5 @@
 -- What a command does, and how it is answered: its exit status, and its line for an error.
-use Rattle.std.specs.Prelude.{◌≡◌, ℕ, ◌⊎◌, List, [], ◌∷◌, ◌++◌, Bool, true, false, None, Result, Ok, Err, codes, decimal}
+use Rattle.std.specs.Prelude.{◌≡◌, ℕ, ◌⊎◌, List, [], ◌∷◌, ◌++◌, Bool, true, false, Option, Some, None, Result, Ok, Err, codes, decimal}
 use Rattle.clap.specs.Words.{Text}
 use Rattle.hex.specs.Hex.{encode_upper}
 use Rattle.llrp_schema.specs.declared.kinds.KindSet.{KindSet}
@@ -17,11 +17,15 @@ use Rattle.llrp_listing.specs.Encoding.{EncodedIn, EncodesIn, EncodeStoppedIn, L
 use Rattle.llrp_listing.specs.Calls.EpcLines.{PrintsEpc}
 use Rattle.llrp_listing.specs.Calls.Hexadecimal.{IsHexOf, IsNoHex}
 use Rattle.llrp_listing.specs.Refused.{refusal_name}
-use Rattle.llrp_listing.specs.Calls.Show.{ListedIn, StoppedIn}
-use Rattle.llrp_listing.specs.Show.{ShowsIn}
-use Rattle.llrp_json.specs.Calls.Show.{ListedJson, StoppedJson}
-use Rattle.llrp_json.specs.JsonLines.{ShowsJson}
-use Rattle.llrp_commands.specs.Calls.Arguments.{Asks, AsksEpc, AsksNoLabels, AsksNoSegments, command_in, word_in}
+use Rattle.llrp_listing.specs.Show.{ListedAs, ShowsAs, StoppedAs}
+use Rattle.llrp_listing.specs.StreamListing.{IsItemText, end_text}
+use Rattle.llrp_json.specs.JsonLines.{end_json}
+use Rattle.llrp_json.specs.JsonNames.{IsNamedJson}
+use Rattle.llrp_json.specs.declared.names.Names.{Names}
+use Rattle.llrp_json.specs.declared.names.Names.TheVariants.{Own}
+use Rattle.llrp_stream.specs.declared.item.Item.{Item}
+use Rattle.llrp_stream.specs.declared.item.End.{End}
+use Rattle.llrp_words.specs.Calls.Arguments.{Asks, AsksEpc, AsksNoLabels, AsksNoSegments, command_in, word_in}
 
 -- the set of kinds that a command takes, with --all or without
 abbrev pub set_of : Bool → KindSet
@@ -76,37 +80,36 @@ Answers (Ok status) e0 e1 answer = (answer ≡ Ok status) × (e1 ≡ e0)
 Answers (Err error) e0 e1 (Ok status) = (status ≡ error_status error) × Wrote e0 e1 (error_line error)
 Answers (Err error) e0 e1 (Err fault) = (fault ≡ Write) × (front : List ℕ) × IsPrefix front (error_line error) × WroteAndFailed e0 e1 front
 
--- the listing of bytes was written, or with --json their lines
-abbrev pub ListedInForm : Bool → KindSet → ℕ → List ℕ → SinkLog → SinkLog → Verdict → Type 0
-ListedInForm false p limit bytes w0 w1 verdict = ListedIn p limit bytes w0 w1 verdict
-ListedInForm true p limit bytes w0 w1 verdict = ListedJson p limit bytes w0 w1 verdict
+-- ---- show
 
--- a front of them was
-abbrev pub StoppedInForm : Bool → KindSet → ℕ → List ℕ → SinkLog → SinkLog → ToolErr → Type 0
-StoppedInForm false p limit bytes w0 w1 error = StoppedIn p limit bytes w0 w1 error
-StoppedInForm true p limit bytes w0 w1 error = StoppedJson p limit bytes w0 w1 error
+-- the line of an item: of a listing, or an object of JSON under these names
+abbrev pub IsLine : Option Names → Item → List ℕ → Type 0
+IsLine None item line = IsItemText item line
+IsLine (Some names) item line = IsNamedJson names item line
 
--- what show of bytes did, by its answer
-abbrev pub ShowsInForm : Bool → KindSet → ℕ → SourceLog → SourceLog → SinkLog → SinkLog → Result Verdict ToolErr → Type 0
-ShowsInForm false p limit r0 r1 w0 w1 outcome = ShowsIn p limit r0 r1 w0 w1 outcome
-ShowsInForm true p limit r0 r1 w0 w1 outcome = ShowsJson p limit r0 r1 w0 w1 outcome
+-- the line of an end, if it has one
+abbrev pub end_line : Option Names → End → List ℕ
+end_line None end = end_text end
+end_line (Some names) end = end_json end
 
 -- Show of hexadecimal digits stopped: while it read, in what it had read, or while it listed the bytes.
-abbrev pub ShowDigitsStopped : Bool → KindSet → ℕ → SourceLog → SourceLog → SinkLog → SinkLog → List ℕ → ToolErr → Type 0
-ShowDigitsStopped json p limit r0 r1 w0 w1 text error =
+abbrev pub ShowDigitsStopped : Option Names → KindSet → ℕ → SourceLog → SourceLog → SinkLog → SinkLog → List ℕ → ToolErr → Type 0
+ShowDigitsStopped names p limit r0 r1 w0 w1 text error =
     (ReadStopped r0 r1 text error × (w1 ≡ w0))
     ⊎ (ReadAll r0 r1 text × (w1 ≡ w0) × ((error ≡ Memory) ⊎ ((error ≡ Hex) × IsNoHex text)))
-    ⊎ (ReadAll r0 r1 text × (bytes : List ℕ) × IsHexOf text bytes × StoppedInForm json p limit bytes w0 w1 error)
+    ⊎ (ReadAll r0 r1 text × (bytes : List ℕ) × IsHexOf text bytes × StoppedAs (IsLine names) (end_line names) p limit bytes w0 w1 error)
 
 -- What show of hexadecimal digits did, by its answer.
-abbrev pub ShowsDigits : Bool → KindSet → ℕ → SourceLog → SourceLog → SinkLog → SinkLog → Result Verdict ToolErr → Type 0
-ShowsDigits json p limit r0 r1 w0 w1 (Ok verdict) = (text bytes : List ℕ) × ReadAll r0 r1 text × IsHexOf text bytes × ListedInForm json p limit bytes w0 w1 verdict
-ShowsDigits json p limit r0 r1 w0 w1 (Err error) = (text : List ℕ) × ShowDigitsStopped json p limit r0 r1 w0 w1 text error
+abbrev pub ShowsDigits : Option Names → KindSet → ℕ → SourceLog → SourceLog → SinkLog → SinkLog → Result Verdict ToolErr → Type 0
+ShowsDigits names p limit r0 r1 w0 w1 (Ok verdict) = (text bytes : List ℕ) × ReadAll r0 r1 text × IsHexOf text bytes × ListedAs (IsLine names) (end_line names) p limit bytes w0 w1 verdict
+ShowsDigits names p limit r0 r1 w0 w1 (Err error) = (text : List ℕ) × ShowDigitsStopped names p limit r0 r1 w0 w1 text error
 
--- What show did in a set of kinds, with --json or without and with --hex or without, by its verdict.
-abbrev pub DoesShow : Bool → Bool → KindSet → (limit : ℕ) → SourceLog → SourceLog → SinkLog → SinkLog → Result Verdict ToolErr → Type 0
-DoesShow json false p limit r0 r1 w0 w1 outcome = ShowsInForm json p limit r0 r1 w0 w1 outcome
-DoesShow json true p limit r0 r1 w0 w1 outcome = ShowsDigits json p limit r0 r1 w0 w1 outcome
+-- What show did in a set of kinds, with a listing or lines of JSON, and without --hex or with it, by its verdict.
+abbrev pub DoesShow : Option Names → Bool → KindSet → (limit : ℕ) → SourceLog → SourceLog → SinkLog → SinkLog → Result Verdict ToolErr → Type 0
+DoesShow names false p limit r0 r1 w0 w1 outcome = ShowsAs (IsLine names) (end_line names) p limit r0 r1 w0 w1 outcome
+DoesShow names true p limit r0 r1 w0 w1 outcome = ShowsDigits names p limit r0 r1 w0 w1 outcome
+
+-- ---- encode
 
 -- bytes as one line of upper-case digits, and no bytes as nothing
 abbrev pub digit_line : List ℕ → List ℕ
@@ -157,11 +160,16 @@ abbrev pub fine_status : Result (Unit {0}) ToolErr → Result ℕ ToolErr
 fine_status (Ok u) = Ok 0
 fine_status (Err error) = Err error
 
+-- the names of lines of JSON, with --json alone
+abbrev pub own_names : Bool → Option Names
+own_names false = None
+own_names true = Some Own
+
 -- Show ran to this answer.
 abbrev pub RanShow : Bool → Bool → KindSet → (limit : ℕ) → SourceLog → SourceLog → SinkLog → SinkLog → SinkLog → SinkLog → Result ℕ ToolErr → Type 0
 RanShow json hex p limit r0 r1 w0 w1 e0 e1 answer =
     IsNotBegun r0 r1 w0 w1 e0 e1 answer
-    ⊎ ((outcome : Result Verdict ToolErr) × DoesShow json hex p limit r0 r1 w0 w1 outcome × Answers (verdict_status outcome) e0 e1 answer)
+    ⊎ ((outcome : Result Verdict ToolErr) × DoesShow (own_names json) hex p limit r0 r1 w0 w1 outcome × Answers (verdict_status outcome) e0 e1 answer)
 
 -- Epc ran to this answer. It reads nothing.
 abbrev pub RanEpc : List ℕ → SourceLog → SourceLog → SinkLog → SinkLog → SinkLog → SinkLog → Result ℕ ToolErr → Type 0

@@ -5,7 +5,7 @@ use Rattle.llrp_schema.specs.declared.kinds.KindSet.{KindSet}
 use Rattle.llrp_listing.specs.declared.outcome.ToolErr.{ToolErr}
 use Rattle.llrp_stream.specs.Device.{SourceLog, SinkLog}
 use Rattle.llrp_json_read.specs.declared.run.LinesErr.{LinesErr}
-use Rattle.llrp_commands.specs.Calls.Arguments.{Asks, AsksNoLabels}
+use Rattle.llrp_words.specs.Calls.Arguments.{Asks, AsksNoLabels}
 use Rattle.llrp_commands.specs.Calls.Command.{Answers, DoesEncode, IsNotBegun, fine_status, set_of}
 use Rattle.llrp_commands.specs.Calls.EncodeJson.{AnswersLines, DoesEncodeJson}
 

@@ -23,7 +23,7 @@ use Rattle.llrp_keys.specs.PrefixLines.{ReadsTable}
 use Rattle.llrp_keys.specs.declared.prefixes.TableErr.{TableErr}
 use Rattle.llrp_keys.specs.declared.prefixes.TableErr.TheVariants.{Unread, Line, Two, Memory}
 use Rattle.llrp_stream.specs.Device.{SourceLog, SinkLog, Wrote, WroteAndFailed}
-use Rattle.llrp_commands.specs.Calls.Arguments.{AsksEpcFile, AsksEpcWith}
+use Rattle.llrp_words.specs.Calls.Arguments.{AsksEpcFile, AsksEpcWith}
 use Rattle.llrp_commands.specs.Calls.Command.{Answers, IsNotBegun, LeftAlone, error_line, status_of}
 
 -- what a command did whose options go together

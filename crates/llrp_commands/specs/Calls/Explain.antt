@@ -16,7 +16,7 @@ use Rattle.llrp_listing.specs.Encoding.{WasRead}
 use Rattle.llrp_listing.specs.Show.{verdict_of}
 use Rattle.llrp_stream.specs.Cuts.{Breaks, IsFrame, IsPartial, joined}
 use Rattle.llrp_stream.specs.Device.{Gave, SourceLog, SinkLog, Wrote, WroteAndFailed}
-use Rattle.llrp_commands.specs.Calls.Arguments.{AsksExplain}
+use Rattle.llrp_words.specs.Calls.Arguments.{AsksExplain}
 use Rattle.llrp_commands.specs.Calls.Digits.{Spells, SpellsFront}
 use Rattle.llrp_commands.specs.Calls.Command.{Answers, IsNotBegun, set_of, verdict_status}
 

@@ -8,7 +8,7 @@ use Rattle.llrp_listing.specs.declared.outcome.ToolErr.{ToolErr}
 use Rattle.llrp_listing.specs.declared.outcome.ToolErr.TheVariants.{Memory, Write}
 use Rattle.llrp_listing.specs.Copying.{IsPrefix}
 use Rattle.llrp_stream.specs.Device.{SourceLog, SinkLog, Wrote, WroteAndFailed}
-use Rattle.llrp_commands.specs.Calls.Arguments.{AsksFields}
+use Rattle.llrp_words.specs.Calls.Arguments.{AsksFields}
 use Rattle.llrp_commands.specs.Calls.Command.{Answers, IsNotBegun, set_of}
 
 -- the line of the kind with a name, or with no name the lines of all kinds

@@ -16,7 +16,7 @@ use Rattle.llrp_labels.specs.declared.fault.LabelErr.TheVariants.{Line, Stopped}
 use Rattle.llrp_labels.specs.declared.fault.LabelFault.{LabelFault}
 use Rattle.llrp_labels.specs.LabelledTexts.{IsPlainText, RefusesAt}
 use Rattle.llrp_labels.specs.LabelledRuns.{ShowsLabelled, label_fault_name}
-use Rattle.llrp_commands.specs.Calls.Arguments.{Asks, AsksLabels, AsksSegments, asks_segments, command_in, word_in}
+use Rattle.llrp_words.specs.Calls.Arguments.{Asks, AsksLabels, AsksSegments, asks_segments, command_in, word_in}
 use Rattle.llrp_commands.specs.Calls.Command.{Answers, DoesEncode, IsNotBegun, set_of, verdict_status}
 use Rattle.llrp_commands.specs.Calls.ShowNames.{AnswersMistake}
 

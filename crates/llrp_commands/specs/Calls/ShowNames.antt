@@ -3,41 +3,18 @@ use Rattle.std.specs.Prelude.{◌≡◌, ◌⊎◌, ℕ, List, Bool, true, false
 use Rattle.clap.specs.Words.{Text}
 use Rattle.llrp_schema.specs.declared.kinds.KindSet.{KindSet}
 use Rattle.llrp_listing.specs.declared.outcome.ToolErr.{ToolErr}
-use Rattle.llrp_listing.specs.declared.outcome.ToolErr.TheVariants.{Hex, Memory, Write}
+use Rattle.llrp_listing.specs.declared.outcome.ToolErr.TheVariants.{Write}
 use Rattle.llrp_listing.specs.declared.outcome.Verdict.{Verdict}
-use Rattle.llrp_listing.specs.Calls.Copying.{ReadStopped}
-use Rattle.llrp_listing.specs.Calls.Hexadecimal.{IsHexOf, IsNoHex}
-use Rattle.llrp_listing.specs.Copying.{ReadAll}
-use Rattle.llrp_listing.specs.Show.{ListedAs, ShowsAs, StoppedAs}
 use Rattle.llrp_stream.specs.Device.{SourceLog, SinkLog, Wrote, WroteAndFailed}
-use Rattle.llrp_json.specs.JsonLines.{end_json}
-use Rattle.llrp_json.specs.JsonNames.{IsNamedJson}
 use Rattle.llrp_json.specs.declared.names.Names.{Names}
 use Rattle.llrp_json.specs.declared.names.Names.TheVariants.{Own, Standard}
-use Rattle.llrp_commands.specs.Calls.Arguments.{Asks, AsksNoLabels, AsksNoSegments, command_in, word_in}
-use Rattle.llrp_commands.specs.Calls.Command.{Answers, IsNotBegun, set_of, verdict_status}
+use Rattle.llrp_words.specs.Calls.Arguments.{Asks, AsksNoLabels, AsksNoSegments, command_in, word_in}
+use Rattle.llrp_commands.specs.Calls.Command.{Answers, DoesShow, IsNotBegun, set_of, verdict_status}
 
 -- the word that asks for these names
 abbrev pub names_word : Names → Text
 names_word Own = codes "profile"
 names_word Standard = codes "standard"
-
--- Show of hexadecimal digits stopped: while it read, in what it had read, or while it listed the bytes.
-abbrev pub NamedDigitsStopped : Names → KindSet → ℕ → SourceLog → SourceLog → SinkLog → SinkLog → List ℕ → ToolErr → Type 0
-NamedDigitsStopped names p limit r0 r1 w0 w1 text error =
-    (ReadStopped r0 r1 text error × (w1 ≡ w0))
-    ⊎ (ReadAll r0 r1 text × (w1 ≡ w0) × ((error ≡ Memory) ⊎ ((error ≡ Hex) × IsNoHex text)))
-    ⊎ (ReadAll r0 r1 text × (bytes : List ℕ) × IsHexOf text bytes × StoppedAs (IsNamedJson names) end_json p limit bytes w0 w1 error)
-
--- what show of hexadecimal digits did, by its answer
-abbrev pub ShowsNamedDigits : Names → KindSet → ℕ → SourceLog → SourceLog → SinkLog → SinkLog → Result Verdict ToolErr → Type 0
-ShowsNamedDigits names p limit r0 r1 w0 w1 (Ok verdict) = (text bytes : List ℕ) × ReadAll r0 r1 text × IsHexOf text bytes × ListedAs (IsNamedJson names) end_json p limit bytes w0 w1 verdict
-ShowsNamedDigits names p limit r0 r1 w0 w1 (Err error) = (text : List ℕ) × NamedDigitsStopped names p limit r0 r1 w0 w1 text error
-
--- What show did in a set of kinds, with lines of JSON under these names, without --hex or with it.
-abbrev pub ShowsNamed : Names → Bool → KindSet → ℕ → SourceLog → SourceLog → SinkLog → SinkLog → Result Verdict ToolErr → Type 0
-ShowsNamed names false p limit r0 r1 w0 w1 outcome = ShowsAs (IsNamedJson names) end_json p limit r0 r1 w0 w1 outcome
-ShowsNamed names true p limit r0 r1 w0 w1 outcome = ShowsNamedDigits names p limit r0 r1 w0 w1 outcome
 
 -- show with --json, or without it, and with this word of --names asks for these names
 abbrev pub AsksNames : Bool → Text → Names → Type 0
@@ -51,7 +28,7 @@ AnswersMistake e0 e1 (Err fault) = (fault ≡ Write) × (front : List ℕ) × Wr
 -- show with --names was answered so: it showed lines under these names, or it asks for none, and nothing was read or written
 abbrev pub NamedTo : Bool → Text → Bool → KindSet → ℕ → SourceLog → SourceLog → SinkLog → SinkLog → SinkLog → SinkLog → Result ℕ ToolErr → Type 0
 NamedTo json word hex p limit r0 r1 w0 w1 e0 e1 answer =
-    ((names : Names) × (outcome : Result Verdict ToolErr) × AsksNames json word names × ShowsNamed names hex p limit r0 r1 w0 w1 outcome × Answers (verdict_status outcome) e0 e1 answer)
+    ((names : Names) × (outcome : Result Verdict ToolErr) × AsksNames json word names × DoesShow (Some names) hex p limit r0 r1 w0 w1 outcome × Answers (verdict_status outcome) e0 e1 answer)
     ⊎ (((names : Names) → AsksNames json word names → ⊥) × (r1 ≡ r0) × (w1 ≡ w0) × AnswersMistake e0 e1 answer)
 
 -- the same, or memory ran out before it began

@@ -1,6 +1,5 @@
 -- What show does with --segments.
 use Rattle.std.specs.Prelude.{◌≡◌, ◌⊎◌, ◌≤◌, ◌<◌, ℕ, ◌&&◌, not, is_none, List, Bool, true, Option, Some, None, Result, Ok, codes}
-use Rattle.std.specs.Str.Parse.{IsNumeral, digits_value, without_leading_plus}
 use Rattle.clap.specs.Words.{Text}
 use Rattle.llrp_schema.specs.declared.kinds.KindSet.{KindSet}
 use Rattle.llrp_listing.specs.Copying.{ReadAll}
@@ -9,16 +8,11 @@ use Rattle.llrp_listing.specs.declared.outcome.Verdict.{Verdict}
 use Rattle.llrp_sides.specs.Calls.Captures.{ListsText}
 use Rattle.llrp_sides.specs.declared.form.Form.{Form}
 use Rattle.llrp_stream.specs.Device.{SourceLog, SinkLog, Wrote}
-use Rattle.llrp_commands.specs.Calls.Arguments.{Asks, AsksNoLabels, AsksSegments, asks_segments, command_in, word_in}
+use Rattle.llrp_words.specs.Calls.Arguments.{Asks, AsksNoLabels, AsksSegments, asks_segments, command_in, word_in}
 use Rattle.llrp_commands.specs.Calls.Command.{Answers, IsNotBegun, set_of, verdict_status}
 use Rattle.llrp_commands.specs.Calls.ShowNames.{AnswersMistake}
-
--- the port that a word of --port spells, from 1 to 65,535
-pub record IsPort (word : Text) (port : ℕ) : Type 0 where
-  pub numeral : IsNumeral 10 (without_leading_plus word)
-  pub value : port ≡ digits_value 10 (without_leading_plus word)
-  pub least : 1 ≤ port
-  pub most : port < 65536
+use Rattle.llrp_words.specs.Calls.Asked.{Show, asked, show}
+use Rattle.llrp_commands.specs.Calls.Does.{IsPort, MeansLines, captured}
 
 -- the reader's port, which is LLRP's own without --port; where the words do not go together there is none
 abbrev pub MeansPort : (plain : Bool) → (word : Option Text) → (port : ℕ) → Type 0
@@ -60,3 +54,11 @@ SegmentsIfAsked words r0 r1 w0 w1 e0 e1 answer =
     (hex all json segments : Bool) (limit : ℕ) (port : Option Text) → Asks words (codes "show") hex all json limit → AsksNoLabels words → AsksSegments words segments port → asks_segments segments port ≡ true
     → IsNotBegun r0 r1 w0 w1 e0 e1 answer
     ⊎ SegmentsTo (is_plain segments hex (word_in (codes "names") (command_in words))) json port (set_of all) limit r0 r1 w0 w1 e0 e1 answer
+
+-- what show did with a capture, and how it ended: it listed it, or it stopped, and the status is not 0
+abbrev pub CapturesTo : Show → ℕ → SourceLog → SourceLog → SinkLog → SinkLog → SinkLog → SinkLog → Result ℕ ToolErr → Type 0
+CapturesTo s port r0 r1 w0 w1 e0 e1 answer = ShowsCapture s.json (set_of s.all) s.limit port r0 r1 w0 w1 e0 e1 answer ⊎ (answer ≡ Ok 0 → ⊥)
+
+-- if the words ask show for a capture, it did so, or memory ran out before it began
+abbrev pub CapturesIfAsked : List Text → SourceLog → SourceLog → SinkLog → SinkLog → SinkLog → SinkLog → Result ℕ ToolErr → Type 0
+CapturesIfAsked words r0 r1 w0 w1 e0 e1 answer = (s : Show) (port : ℕ) → asked words ≡ show s → MeansLines s (captured port) → IsNotBegun r0 r1 w0 w1 e0 e1 answer ⊎ CapturesTo s port r0 r1 w0 w1 e0 e1 answer

@@ -8,6 +8,7 @@ use Rattle.llrp_tree.specs.Tree.{Tree, trees}
 use Rattle.llrp_tree.specs.declared.node.Node.{Node}
 use Rattle.llrp_operations.specs.declared.operation.Operation.{Operation}
 use Rattle.llrp_operations.specs.declared.operation.Operation.TheVariants.{Read, Write, Lock}
+use Rattle.llrp_operations.specs.Calls.Messages.{epc_in}
 use Rattle.llrp_operations.specs.Calls.Operations.{words_octets}
 use Rattle.llrp_operations.specs.Calls.Results.{has_succeeded, is_result}
 
@@ -64,6 +65,13 @@ say_words (Write bank pointer words ∷ os) (t ∷ ts) = bytes_eq t.tail (words_
 abbrev pub is_verified : List Operation → Tree → Bool
 is_verified os tag = say_words os (drop (length os) (filter is_result (trees tag.children)))
 
--- all that was asked for was done: what was sent, and where it verifies, the words that are read back are those that were written
-abbrev pub is_done : (verifies : Bool) → ℕ → (asked sent : List Operation) → Tree → Bool
-is_done verifies id asked sent tag = has_succeeded id sent tag && (not verifies || is_verified asked tag)
+-- ---- the tag that is meant
+
+-- the EPC is the one that is meant, where one is, or the one that the tag was to be given, where it was
+abbrev pub is_meant : (meant given epc : List ℕ) → Bool
+is_meant meant given epc = bytes_eq meant [] || bytes_eq epc meant || (not (bytes_eq given []) && bytes_eq epc given)
+
+-- all that was asked for was done to the tag that is meant: what was sent, and where it verifies, the words that are read back are those that were written
+abbrev pub is_done : (verifies : Bool) → ℕ → (asked sent : List Operation) → (meant given : List ℕ) → Tree → Bool
+is_done verifies id asked sent meant given tag =
+    is_meant meant given (epc_in (trees tag.children)) && (has_succeeded id sent tag && (not verifies || is_verified asked tag))

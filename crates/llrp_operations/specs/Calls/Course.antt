@@ -8,7 +8,7 @@ use Rattle.llrp_operations.specs.declared.course.Demand.TheVariants.{ClearAccess
 use Rattle.llrp_operations.specs.declared.course.Heard.{Heard}
 use Rattle.llrp_operations.specs.declared.course.Heard.TheVariants.{Accepts, Answers, Keepalive, Sees, Results}
 use Rattle.llrp_operations.specs.declared.course.Outcome.{Outcome}
-use Rattle.llrp_operations.specs.declared.course.Outcome.TheVariants.{Reported, Refused, Several, NoTag, Unknown, Broken}
+use Rattle.llrp_operations.specs.declared.course.Outcome.TheVariants.{Reported, Refused, Several, NoEpc, NoTag, Unknown, Broken}
 use Rattle.llrp_operations.specs.declared.course.Saying.{Saying}
 use Rattle.llrp_operations.specs.declared.course.Saying.TheVariants.{Asks, Acknowledges}
 use Rattle.llrp_operations.specs.declared.course.Stage.{Stage}
@@ -19,7 +19,7 @@ pub record Course : Type 0 where
   pub mask : List ℕ  -- the EPC of the tag, or nothing for any tag
   pub changes : Bool  -- the tag is written or locked
   pub stage : Stage
-  pub seen : Option (List ℕ)  -- the first EPC that the mask selects
+  pub seen : Option (List ℕ)  -- the first EPC that the mask selects; of no octets where the tag cannot be named
   pub several : Bool  -- it selects another one too
   pub refused : Option ℕ  -- the status by which the reader refused something
   pub armed : Bool  -- ENABLE_ACCESSSPEC was said
@@ -55,7 +55,7 @@ say d c = record c { stage = Asking d; armed = c.armed || arms d; said = c.said 
 
 -- ---- the inventory before a change
 
--- tags are counted while this is waited for
+-- tags are counted before a change, while this is waited for
 abbrev pub looks : Stage → Bool
 looks (Asking StartInventory) = true
 looks Seeking = true
@@ -79,12 +79,12 @@ abbrev pub counted : List ℕ → Course → Course
 counted epc c = record (noted epc c.seen c) { stage = settled c.stage }
 
 abbrev pub sees : List ℕ → Course → Course
-sees epc c = if looks c.stage && selects c.mask epc then counted epc c else c
+sees epc c = if c.changes && (looks c.stage && selects c.mask epc) then counted epc c else c
 
--- one tag was seen that the mask selects, and it is the one that is meant
+-- one tag was seen that the mask selects, it can be named, and it is the one that is meant
 abbrev pub is_alone : (mask : List ℕ) → Option (List ℕ) → (several : Bool) → Bool
 is_alone mask None several = false
-is_alone mask (Some epc) several = not several && (bytes_eq mask [] || bytes_eq mask epc)
+is_alone mask (Some epc) several = not several && (not (bytes_eq epc []) && (bytes_eq mask [] || bytes_eq mask epc))
 
 abbrev pub settle : Course → Course
 settle c = if is_alone c.mask c.seen c.several then say AddAccess c else say RemoveAccess c
@@ -187,9 +187,14 @@ refused_or None outcome = outcome
 abbrev pub may_have_changed : Course → Bool
 may_have_changed c = c.armed && c.changes
 
+-- the tag that was seen has no EPC
+abbrev pub is_nameless : Option (List ℕ) → Bool
+is_nameless None = false
+is_nameless (Some epc) = bytes_eq epc []
+
 -- nothing was refused and no results came
 abbrev pub resultless : Course → Outcome
-resultless c = if c.several then Several else if may_have_changed c then Unknown else NoTag
+resultless c = if c.several then Several else if may_have_changed c then Unknown else if is_nameless c.seen then NoEpc else NoTag
 
 abbrev pub outcome : Course → Outcome
 outcome c =

@@ -5,7 +5,7 @@ use Rattle.llrp_operations.specs.declared.course.Demand.{Demand}
 use Rattle.llrp_operations.specs.declared.course.Demand.TheVariants.{ClearAccess, ClearInventory, AddAccess, EnableAccess, RemoveAccess, RemoveInventory, Close}
 use Rattle.llrp_operations.specs.declared.course.Heard.{Heard}
 use Rattle.llrp_operations.specs.declared.course.Outcome.{Outcome}
-use Rattle.llrp_operations.specs.declared.course.Outcome.TheVariants.{NoTag, Broken}
+use Rattle.llrp_operations.specs.declared.course.Outcome.TheVariants.{NoEpc, NoTag, Broken}
 use Rattle.llrp_operations.specs.declared.course.Saying.{Saying}
 use Rattle.llrp_operations.specs.declared.course.Saying.TheVariants.{Asks, Acknowledges}
 use Rattle.llrp_operations.specs.declared.course.Stage.TheVariants.{Ended}
@@ -31,9 +31,9 @@ abbrev pub adds : Saying → Bool
 adds (Asks AddAccess) = true
 adds _ = false
 
--- one EPC was seen, and it is the one that is meant
+-- one EPC was seen, of some octets, and it is the one that is meant
 abbrev pub SawOne : List ℕ → Course → Type 0
-SawOne mask c = (epc : List ℕ) × (c.seen ≡ Some epc) × (c.several ≡ false) × ((mask ≡ []) ⊎ (mask ≡ epc))
+SawOne mask c = (epc : List ℕ) × (c.seen ≡ Some epc) × (c.several ≡ false) × (epc ≡ [] → ⊥) × ((mask ≡ []) ⊎ (mask ≡ epc))
 
 -- where a tag is changed, the AccessSpec is added only if one EPC was seen that the mask selects, and it is the one that is meant
 abbrev pub ChangesOne : Type 0
@@ -48,6 +48,7 @@ enables _ = false
 
 -- it says that no tag was changed, without a refusal by the reader or several tags
 abbrev pub denies_change : Outcome → Bool
+denies_change NoEpc = true
 denies_change NoTag = true
 denies_change Broken = true
 denies_change _ = false

@@ -2,13 +2,14 @@
 use Rattle.std.specs.Prelude.{◌≡◌, ℕ, suc, true, List, [], ◌∷◌, filter}
 use Rattle.llrp_tree.specs.Tree.{Tree, trees}
 use Rattle.llrp_operations.specs.declared.operation.Operation.{Operation}
-use Rattle.llrp_operations.specs.Calls.Results.{are_of, field_at, has_succeeded, is_parameter, is_result, result_kind}
+use Rattle.llrp_operations.specs.Calls.Results.{are_of, field_at, has_succeeded, is_parameter, is_result, is_whole, result_kind}
 
--- a result of an operation with this OpSpecID, which is 0: success
+-- a result of an operation with this OpSpecID, which is 0, success, and has as many words as were to be read or written
 pub record IsDone (id : ℕ) (o : Operation) (t : Tree) : Type 0 where
   pub kind : is_parameter (result_kind o) t ≡ true
   pub success : field_at 0 t ≡ 0
   pub own : field_at 1 t ≡ id
+  pub whole : is_whole o t ≡ true
 
 -- one such result for each operation, in order, whose ids count from this one
 abbrev pub AreDone : ℕ → List Operation → List Tree → Type 0

@@ -1,5 +1,5 @@
 -- The lines of results.
-use Rattle.std.specs.Prelude.{ℕ, List, [], ◌∷◌, ◌++◌, Option, Some, None, codes, decimal, option_map}
+use Rattle.std.specs.Prelude.{ℕ, List, [], ◌∷◌, ◌++◌, Option, Some, None, codes, decimal, option_map, if◌then◌else◌}
 use Rattle.std.specs.Borrow.{Bor}
 use Rattle.hex.specs.Hex.{encode_lower}
 use Rattle.tag_memory.specs.declared.bank.Bank.{Bank}
@@ -7,7 +7,7 @@ use Rattle.llrp_tree.specs.Tree.{Tree}
 use Rattle.llrp_tree.specs.declared.node.Node.{Node}
 use Rattle.llrp_operations.specs.declared.operation.Operation.{Operation}
 use Rattle.llrp_operations.specs.declared.operation.Operation.TheVariants.{Read, Write, Lock}
-use Rattle.llrp_operations.specs.Calls.ResultNames.{result_name}
+use Rattle.llrp_operations.specs.Calls.ResultNames.{has_name, result_name}
 use Rattle.llrp_operations.specs.Calls.Results.{field_at}
 use Rattle.llrp_operations.specs.Calls.Words.{bank_name, field_name, manner_name}
 
@@ -24,10 +24,13 @@ operation_text (Read bank pointer count) = codes "read " ++ (place bank pointer 
 operation_text (Write bank pointer words) = codes "write " ++ place bank pointer
 operation_text (Lock field manner) = codes "lock " ++ (field_name field ++ (codes "=" ++ manner_name manner))
 
--- the name of its result, the first field
+-- the name of its result, the first field; a number that has none stands after it
+abbrev pub number_after : Operation → ℕ → List ℕ
+number_after o n = if has_name o n then [] else (codes " " ++ decimal n)
+
 abbrev pub name_of : Operation → Option Tree → List ℕ
 name_of o None = codes "NoResult"
-name_of o (Some t) = result_name o (field_at 0 t)
+name_of o (Some t) = result_name o (field_at 0 t) ++ number_after o (field_at 0 t)
 
 -- the octets of the words that were read, the tail of the result
 abbrev pub words_of : Option Tree → List ℕ
@@ -38,14 +41,21 @@ abbrev pub words_text : (before words after : List ℕ) → List ℕ
 words_text before [] after = []
 words_text before (w ∷ ws) after = before ++ (encode_lower (w ∷ ws) ++ after)
 
-abbrev pub result_line : Operation → Option Tree → List ℕ
-result_line o said = operation_text o ++ (codes " " ++ (name_of o said ++ (words_text (codes " ") (words_of said) [] ++ codes "\n")))
+-- of the tag with this name
+abbrev pub result_line : (tag : List ℕ) → Operation → Option Tree → List ℕ
+result_line tag o said = tag ++ (codes " " ++ operation_text o) ++ (codes " " ++ (name_of o said ++ (words_text (codes " ") (words_of said) [] ++ codes "\n")))
+
+abbrev pub whose : (tag : List ℕ) → List ℕ
+whose tag = codes "{\"epc\":\"" ++ (tag ++ codes "\"")
 
 abbrev pub what : Operation → List ℕ
-what o = codes "{\"operation\":\"" ++ (operation_text o ++ codes "\"")
+what o = codes ",\"operation\":\"" ++ (operation_text o ++ codes "\"")
+
+abbrev pub head : (tag : List ℕ) → Operation → List ℕ
+head tag o = whose tag ++ what o
 
 abbrev pub called : Operation → Option Tree → List ℕ
 called o said = codes ",\"result\":\"" ++ (name_of o said ++ codes "\"")
 
-abbrev pub result_object : Operation → Option Tree → List ℕ
-result_object o said = what o ++ (called o said ++ (words_text (codes ",\"words\":\"") (words_of said) (codes "\"") ++ codes "}\n"))
+abbrev pub result_object : (tag : List ℕ) → Operation → Option Tree → List ℕ
+result_object tag o said = head tag o ++ (called o said ++ (words_text (codes ",\"words\":\"") (words_of said) (codes "\"") ++ codes "}\n"))

@@ -1,5 +1,5 @@
 -- What a client says as messages, and what it hears in them (LLRP 1.1, sections 10 to 14).
-use Rattle.std.specs.Prelude.{ℕ, ◌==◌, ◌&&◌, ◌||◌, min, Bool, if◌then◌else◌, List, [], ◌∷◌, drop, find, Option, Some, None}
+use Rattle.std.specs.Prelude.{ℕ, ◌%◌, nat_le, ◌==◌, ◌&&◌, ◌||◌, min, Bool, if◌then◌else◌, List, [], ◌∷◌, drop, find, Option, Some, None}
 use Rattle.std.specs.Int.{to_be_bytes, w128}
 use Rattle.std.specs.List.{list_any}
 use Rattle.llrp_schema.specs.declared.kinds.Kind.TheVariants.{Message}
@@ -123,10 +123,14 @@ attempt_below (Some t) = status_of (find (is_kind WholeConnectionAttemptEvent) (
 abbrev pub attempt_in : MessageTree → Option ℕ
 attempt_in m = attempt_below (find (is_kind WholeReaderEventNotificationData) (trees m.children))
 
--- the octets of the first EPC among parameters: a number of 96 bits, or data
+-- the octets by which an EPC of this many bits names its tag: none if it is not of whole words, or of more than 31 (EPC C1G2, section 6.3.2.1.2)
+abbrev pub named : (bits : ℕ) → List ℕ → List ℕ
+named bits octets = if (bits % 16 == 0) && nat_le bits 496 then octets else []
+
+-- those of the first EPC among parameters: a number of 96 bits, or data
 abbrev pub epc_in : List Tree → List ℕ
 epc_in [] = []
-epc_in (t ∷ ts) = if is_parameter WholeEpc96 t then drop 4 (to_be_bytes w128 (field_at 0 t)) else if is_parameter WholeEpcData t then t.tail else epc_in ts
+epc_in (t ∷ ts) = if is_parameter WholeEpc96 t then drop 4 (to_be_bytes w128 (field_at 0 t)) else if is_parameter WholeEpcData t then named (field_at 0 t) t.tail else epc_in ts
 
 -- TagReportData with results of the AccessSpec with this id
 abbrev pub has_results : ℕ → Tree → Bool

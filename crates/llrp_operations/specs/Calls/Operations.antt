@@ -1,5 +1,5 @@
 -- Operations on a tag, and the AccessSpec that asks for them (LLRP 1.1, sections 12 and 16).
-use Rattle.std.specs.Prelude.{ℕ, suc, ◌*◌, ◌/◌, ◌%◌, List, [], ◌∷◌, ◌++◌, length, replicate}
+use Rattle.std.specs.Prelude.{◌≡◌, ◌<◌, ◌⊎◌, ℕ, suc, ◌*◌, ◌/◌, ◌%◌, List, [], ◌∷◌, ◌++◌, length, replicate}
 use Rattle.tag_memory.specs.declared.bank.Bank.{Bank}
 use Rattle.tag_memory.specs.declared.bank.Bank.TheVariants.{Reserved, Epc, Tid, User}
 use Rattle.llrp_schema.specs.declared.kinds.ParamKind.{ParamKind}
@@ -12,6 +12,7 @@ use Rattle.llrp_operations.specs.declared.operation.LockManner.TheVariants as ma
 use Rattle.llrp_operations.specs.declared.operation.Operation.{Operation}
 use Rattle.llrp_operations.specs.declared.operation.Operation.TheVariants.{Read, Write, Lock}
 use Rattle.llrp_operations.specs.declared.request.Request.{Request}
+use Rattle.llrp_operations.specs.declared.request.TheConstants.{LONGEST_EPC}
 
 -- MB: the number of a bank
 abbrev pub bank_number : Bank → ℕ
@@ -62,16 +63,33 @@ abbrev pub operation_specs : (first password : ℕ) → List Operation → List 
 operation_specs first password [] = []
 operation_specs first password (o ∷ os) = operation_spec first password o ∷ operation_specs (suc first) password os
 
--- ---- the tag: all bits of its EPC, which stands in the EPC bank (1) after the checksum and the protocol control word, at bit 32
+-- ---- the tag: in the EPC bank (1) the length of its EPC in words, the five highest bits of the protocol control word, from bit 16 on, and its EPC, from bit 32 on (EPC C1G2, section 6.3.2.1.2)
+
+abbrev pub target : (pointer count : ℕ) → (tail : List ℕ) → Tree
+target pointer count tail = record { kind = WholeC1G2TargetTag; fields = 1 ∷ 1 ∷ pointer ∷ count ∷ []; tail = tail; children = forest [] }
+
+-- a mask of five ones, and five bits: half as many words as the EPC has octets
+abbrev pub length_target : List ℕ → Tree
+length_target epc = target 16 5 (248 ∷ 0 ∷ 5 ∷ 4 * length epc ∷ [])
 
 -- a mask of ones, how many bits the EPC has, and the EPC
 abbrev pub target_tail : List ℕ → List ℕ
 target_tail epc = replicate (length epc) 255 ++ ((8 * length epc) / 256 ∷ ((8 * length epc) % 256 ∷ epc))
 
+abbrev pub epc_target : List ℕ → Tree
+epc_target epc = target 32 (8 * length epc) (target_tail epc)
+
+-- an EPC of no octets is any
+abbrev pub targets : List ℕ → List Tree
+targets [] = epc_target [] ∷ []
+targets (o ∷ os) = length_target (o ∷ os) ∷ epc_target (o ∷ os) ∷ []
+
 abbrev pub tag_spec : List ℕ → Tree
-tag_spec epc =
-    with_children WholeC1G2TagSpec []
-    (record { kind = WholeC1G2TargetTag; fields = 1 ∷ 1 ∷ 32 ∷ 8 * length epc ∷ []; tail = target_tail epc; children = forest [] } ∷ [])
+tag_spec epc = with_children WholeC1G2TagSpec [] (targets epc)
+
+-- no EPC that a tag can have: more than 31 words, or no whole ones
+abbrev pub IsNoEpc : List ℕ → Type 0
+IsNoEpc epc = (LONGEST_EPC < length epc) ⊎ (length epc % 2 ≡ 1)
 
 -- ---- the AccessSpec
 

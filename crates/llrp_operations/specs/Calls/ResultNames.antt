@@ -1,5 +1,5 @@
 -- The names of the results of operations (LLRP 1.1, section 16.2.1.5). The numbers are as the standard's text is remembered.
-use Rattle.std.specs.Prelude.{ℕ, ◌==◌, if◌then◌else◌, List, codes}
+use Rattle.std.specs.Prelude.{ℕ, nat_le, Bool, ◌==◌, if◌then◌else◌, List, codes}
 use Rattle.llrp_operations.specs.declared.operation.Operation.{Operation}
 use Rattle.llrp_operations.specs.declared.operation.Operation.TheVariants.{Read, Write, Lock}
 
@@ -45,3 +45,9 @@ abbrev pub result_name : Operation → ℕ → List ℕ
 result_name (Read _ _ _) n = read_name n
 result_name (Write _ _ _) n = write_name n
 result_name (Lock _ _) n = lock_name n
+
+-- the numbers that the standard has
+abbrev pub has_name : Operation → ℕ → Bool
+has_name (Read _ _ _) n = nat_le n 6
+has_name (Write _ _ _) n = nat_le n 7
+has_name (Lock _ _) n = nat_le n 7

@@ -1,5 +1,5 @@
 -- A client that operates on a tag, over the octets of its reader: what it makes of them, and what goes to the reader.
-use Rattle.std.specs.Prelude.{◌≡◌, ℕ, ◌&&◌, not, Bool, true, false, List, [], ◌∷◌, ◌++◌, Option, Some, None, unwrap_or}
+use Rattle.std.specs.Prelude.{◌≡◌, ℕ, ◌&&◌, not, Bool, true, false, List, [], ◌∷◌, ◌++◌, Option, Some, None, option_map, unwrap_or}
 use Rattle.std.specs.List.{AllZip, list_any}
 use Rattle.llrp_schema.specs.declared.kinds.KindSet.TheVariants.{Standard}
 use Rattle.llrp_tree.specs.declared.TheConstants.{MAX_LIMIT}
@@ -121,4 +121,5 @@ pub record Talks (r : Request) (r0 r1 : SourceLog) (w0 w1 : SinkLog) (talked : T
   pub sends : Sends failed w0 w1 octets
   pub outcome_is : talked.outcome ≡ outcome (cut_off failed (stopped why (follow r.id events (first_talk r)))).course
   pub report_is : talked.report ≡ (follow r.id events (first_talk r)).report
+  pub seen_is : option_map (λ epc. epc.items) talked.seen ≡ (cut_off failed (stopped why (follow r.id events (first_talk r)))).course.seen
   pub cause_is : talked.cause ≡ unwrap_or (cut_off failed (stopped why (follow r.id events (first_talk r)))).cause Read

@@ -1,5 +1,5 @@
 -- What the calls of a conversation make of it, whatever came before.
-use Rattle.std.specs.Prelude.{◌≡◌, ◌⊎◌, ℕ, ◌&&◌, not, Bool, false, List, [], ◌++◌, map, Option, Some, if◌then◌else◌, unwrap_or}
+use Rattle.std.specs.Prelude.{◌≡◌, ◌⊎◌, ℕ, ◌&&◌, not, Bool, false, List, [], ◌++◌, map, option_map, Option, Some, if◌then◌else◌, unwrap_or}
 use Rattle.llrp_schema.specs.declared.kinds.KindSet.TheVariants.{Standard}
 use Rattle.llrp_tree.specs.declared.TheConstants.{MAX_LIMIT}
 use Rattle.llrp_tree.specs.Tree.{MessageTree}
@@ -146,6 +146,7 @@ pub record PassesOn (old new : Conversation) (out0 out1 : List ℕ) (w0 w1 : Sin
 pub record EndsAs (c : Conversation) (talked : Talked) : Type 0 where
   pub outcome : talked.outcome ≡ outcome (talk_of c).course
   pub report : talked.report ≡ c.report
+  pub seen : option_map (λ epc. epc.items) talked.seen ≡ (talk_of c).course.seen
   pub cause : talked.cause ≡ unwrap_or c.cause Read
 
 -- ---- a conversation

@@ -16,4 +16,4 @@ returns-in-Ok-read_values c =
     message_parts_said c.args.set c.in-Ok.kind (value_view c.args.value.now) c.in-Ok-read_start.start.0 c.in-Ok-read_start.start.1 c.in-Ok-read_values.fields.items c.in-Ok-read_values.tail c.in-Ok.ensures c.in-Ok-check_members.ensures c.in-Ok-read_start.ensures c.in-Ok-read_values.ensures
 
 pub returns-in-Err-read_values : goal.returns-in-Err-read_values
-returns-in-Err-read_values c = message_values_refused c.args.set c.in-Ok.kind (value_view c.args.value.now) c.in-Err-read_values.error c.in-Ok.ensures c.in-Ok-check_members.ensures c.in-Err-read_values.ensures
+returns-in-Err-read_values c = message_values_refused c.args.set c.in-Ok.kind (value_view c.args.value.now) c.in-Ok-read_start.start.0 c.in-Ok-read_start.start.1 c.in-Err-read_values.error c.in-Ok.ensures c.in-Ok-check_members.ensures c.in-Ok-read_start.ensures c.in-Err-read_values.ensures

@@ -1,0 +1,2 @@
+-- Words of private functions: no public contract names one.
+pub mod Files

@@ -1,0 +1,5 @@
+pub mod ArgumentLemmas
+pub mod AskedLemmas
+pub mod CommandLemmas
+pub mod GivenArguments
+pub mod ReadRows

@@ -1,0 +1,4 @@
+use Rattle.llrp_words.proofs.arguments.commands.access_command.Goals as goal
+
+pub returns-clause-app : goal.returns-clause-app
+returns-clause-app c = c.command.ensures.app

@@ -1,0 +1,57 @@
+//! Both ends of a connection over sources and sinks.
+
+use crate::octets::{allow_growths, octets_of, print_octets, refuse_growths};
+use crate::texts::{plan_of, script_of};
+use anyhow::{Result, bail};
+use llrp_endpoints::{run_inventory, run_serve};
+use llrp_session::Reader;
+use llrp_stream::Input;
+use llrp_tree::MAX_LIMIT;
+use test_devices::Room;
+
+/// Makes a call of this module, and returns whether it has one of this name.
+pub fn make(rt: &HostRuntime, call: &str, row: &[String]) -> Result<bool> {
+    match call {
+        "serve" => serve(rt, row)?,
+        "inventory" => inventory(rt, row)?,
+        _ => return Ok(false),
+    }
+    Ok(true)
+}
+
+/// Calls `run_serve`: the words are the client's octets and the script.
+fn serve(rt: &HostRuntime, row: &[String]) -> Result<()> {
+    let alloc = rt.alloc();
+    let [stream, script] = row else {
+        bail!("the words are octets and a script");
+    };
+    let stream = octets_of(alloc, stream.as_str())?;
+    let script = script_of(alloc, script.as_str())?;
+    let mut source = Input::new(stream.as_slice());
+    let mut sink = Room::new(alloc, 1 << 20)?;
+    refuse_growths(rt)?;
+    let core = Reader::new(alloc, MAX_LIMIT, 1);
+    let end = run_serve(alloc, core, script, &mut source, &mut sink);
+    allow_growths(rt)?;
+    println!(rt; "answer {end:?}")?;
+    print_octets(rt, "wrote", sink.taken())
+}
+
+/// Calls `run_inventory`: the words are the plan and the reader's octets.
+fn inventory(rt: &HostRuntime, row: &[String]) -> Result<()> {
+    let alloc = rt.alloc();
+    let [plan, stream] = row else {
+        bail!("the words are a plan and octets");
+    };
+    let stream = octets_of(alloc, stream.as_str())?;
+    let plan = plan_of(alloc, plan.as_str())?;
+    let mut source = Input::new(stream.as_slice());
+    let mut sink = Room::new(alloc, 1 << 20)?;
+    let mut report = Room::new(alloc, 1 << 20)?;
+    refuse_growths(rt)?;
+    let end = run_inventory(alloc, plan, MAX_LIMIT, &mut source, &mut sink, &mut report);
+    allow_growths(rt)?;
+    println!(rt; "answer {end:?}")?;
+    print_octets(rt, "wrote", sink.taken())?;
+    print_octets(rt, "reported", report.taken())
+}

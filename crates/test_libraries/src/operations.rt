@@ -1,0 +1,5 @@
+//! Operations on one tag.
+
+mod courses;
+mod requests;
+mod words;
