@@ -1,11 +1,12 @@
 #!/usr/bin/env python3
 """Proves the crates of which the program llrp is made, and builds it: crates/llrp/out/llrp. With the word `library` it does so for the
-library for C: crates/llrp_c/out/libllrp_c.a, which library.sh makes into what others link with.
+library for C: crates/llrp_c/out/libllrp_c.a, which library.sh makes into what others link with; with the word `offline` for the program
+of the commands that need no socket: crates/llrp_offline/out/llrp_offline.
 
-usage: build.py [library]
+usage: build.py [library | offline]
 
-Two rows of crates are proved side by side, by as many jobs as there are processors and memory for (at most four): most crates wait for those
-of the first row. The second is proved in a copy, since the toolchain proves no two crates of a checkout at a time that stand on a third. The
+As many crates are proved side by side as there are processors and memory for (at most four), those first that have most above them. The
+first is proved here and each other in a copy, since the toolchain proves no two crates of a checkout at a time that stand on a third. The
 program or library comes last. What was proved before is kept, so only crates that changed and those above them are proved. How far it is goes to
 standard error: on a terminal one line that changes, else a line for each crate. The status is 0 where all is built, 1 where it is not, 2
 where the words are others, and 128 and the signal's number where a signal ends it.
@@ -36,14 +37,18 @@ class Product(NamedTuple):
 
 
 PROGRAM = Product("the program", "llrp", ("run", ["--", "--help"]), f"{TOP}/crates/llrp/out/llrp")
+OFFLINE = Product(
+    "the program of commands that need no socket", "llrp_offline", ("run", ["--", "--help"]), f"{TOP}/crates/llrp_offline/out/llrp_offline"
+)
 LIBRARY = Product("the library for C", "llrp_c", ("lib", []), f"{TOP}/crates/llrp_c/out/libllrp_c.a")
 # More were not tried, and each takes memory.
 MOST_JOBS = 4
-# The crates that are proved in the copy, in this order.
-BESIDE = ("tag_bits", "tag_epc", "tag_uri", "tag_keys", "tag_forms", "llrp_session", "llrp_explain", "llrp_texts", "llrp_endpoints", "llrp_ask", "llrp_live")
-# The crates that are proved by all jobs but one, no two at a time. Each other takes one: by more the processors do up to twice as much.
-LARGE = ("llrp_schema", "llrp_tree", "llrp_stream", "llrp_listing", "llrp_endpoints")
-COPY = f"{TOP}/out/beside"
+# By how many jobs a crate of so many lines is proved that has most above it, since others wait for it. A smaller one takes longer by several
+# jobs than by one: tag_epc 126 seconds by four, and 86 by one.
+FIRST_JOBS = 2
+LARGE = 2500
+# Where the copies are, in folders 1, 2 and so on.
+COPIES = f"{TOP}/out/beside"
 # What ends a build, with all that it began.
 SIGNALS = (signal.SIGINT, signal.SIGTERM, signal.SIGHUP)
 KILOBYTES_A_JOB = 3_000_000
@@ -86,7 +91,7 @@ class Progress:
         self.is_terminal = sys.stderr.isatty()
         self.shown = ""
         sys.stderr.write(f"llrp: proving {len(crates)} crates, and building {product.what}\n")
-        if product == PROGRAM:
+        if product in (PROGRAM, OFFLINE):
             sys.stderr.write("llrp: meanwhile, in another terminal: ./llrp --unproved WORDS answers without the proofs\n")
         sys.stderr.flush()
 
@@ -139,11 +144,11 @@ class Progress:
 class Run:
     """A command of the toolchain in a crate's folder, which ends with this process."""
 
-    def __init__(self, top, crate, *words):
+    def __init__(self, top, crate, jobs, *words):
         how = {"cwd": f"{top}/crates/{crate}", "stdin": subprocess.DEVNULL}
-        how.update(stdout=subprocess.PIPE, stderr=subprocess.STDOUT, start_new_session=True)
-        self.process = subprocess.Popen(["rt", *words], **how)
-        self.top, self.crate, self.last = top, crate, None
+        how.update(stdout=subprocess.PIPE, stderr=subprocess.STDOUT, start_new_session=True, preexec_fn=let_signals_in)
+        self.process = subprocess.Popen(["rt", words[0], "--jobs", str(jobs), *words[1:]], **how)
+        self.top, self.crate, self.jobs, self.last = top, crate, jobs, None
         self.text, self.rest, self.is_open = "", b"", True
 
     def read(self):
@@ -163,6 +168,20 @@ class Run:
         if self.process.poll() is None:
             os.killpg(self.process.pid, signal.SIGTERM)
             self.process.wait()
+
+
+def let_signals_in():
+    signal.pthread_sigmask(signal.SIG_UNBLOCK, SIGNALS)
+
+
+def started(runs, *given):
+    """Begins a command, and notes it. A signal waits meanwhile, so that it ends what has begun."""
+    signal.pthread_sigmask(signal.SIG_BLOCK, SIGNALS)
+    try:
+        runs.append(Run(*given))
+    finally:
+        let_signals_in()
+    return runs[-1]
 
 
 def read_until_end(running, progress):
@@ -215,27 +234,56 @@ def link_or_copy(one, other):
         shutil.copy2(one, other)
 
 
-def lend(crate, source, target):
+def lend(crate, source, target, parts=("incremental", "rlib")):
     """Gives a checkout what another one has made of a crate."""
     with held(f"{target}/crates/{crate}"):
-        for part in ("incremental", "rlib"):
+        for part in parts:
             made, to = (f"{top}/crates/{crate}/out/{part}" for top in (source, target))
             if os.path.isdir(made):
                 shutil.rmtree(to, ignore_errors=True)
                 shutil.copytree(made, to, copy_function=link_or_copy)
 
 
-def make_copy(crates):
-    """Makes the copy, of the sources of these crates and what was made of them before."""
-    shutil.rmtree(COPY, ignore_errors=True)
+def has_library(top, crate):
+    """Returns whether a checkout has the library of a crate that is there at the top, too."""
+    stamps = [f"{it}/crates/{crate}/out/rlib/stamp" for it in (top, TOP)]
+    with contextlib.suppress(OSError):
+        texts = [open_text(it) for it in stamps]
+        return texts[0] == texts[1]
+    return False
+
+
+def open_text(path):
+    with open(path, encoding="utf-8") as file:
+        return file.read()
+
+
+def make_copy(top, crates):
+    """Makes a copy of the sources of these crates."""
+    shutil.rmtree(top, ignore_errors=True)
     for crate in crates:
+        os.makedirs(f"{top}/crates/{crate}")
         for part in ("src", "specs", "proofs"):
             if os.path.isdir(f"{TOP}/crates/{crate}/{part}"):
-                shutil.copytree(f"{TOP}/crates/{crate}/{part}", f"{COPY}/crates/{crate}/{part}")
-        os.makedirs(f"{COPY}/crates/{crate}", exist_ok=True)
-        lend(crate, TOP, COPY)
-    with open(f"{TOP}/crates.txt", encoding="utf-8") as lines, open(f"{COPY}/crates.txt", "w", encoding="utf-8") as copied:
+                shutil.copytree(f"{TOP}/crates/{crate}/{part}", f"{top}/crates/{crate}/{part}")
+    with open(f"{TOP}/crates.txt", encoding="utf-8") as lines, open(f"{top}/crates.txt", "w", encoding="utf-8") as copied:
         copied.writelines(line for line in lines if re.split("[ :]", line)[0] in crates)
+
+
+def lines_of(crate):
+    """Returns how many lines of code a crate has."""
+    lines = 0
+    for folder, _, names in os.walk(f"{TOP}/crates/{crate}/src"):
+        lines += sum(open_text(f"{folder}/{name}").count("\n") for name in names if name.endswith(".rt"))
+    return lines
+
+
+def lines_above(crates, uses):
+    """Returns of each crate how many lines of code it has, with those of the longest chain of crates that wait for it."""
+    found = {}
+    for crate in reversed(crates):
+        found[crate] = lines_of(crate) + max((found[it] for it in found if crate in uses[it]), default=0)
+    return found
 
 
 def ended(proofs, progress, product):
@@ -248,24 +296,40 @@ def ended(proofs, progress, product):
     return True
 
 
-def prove_rows(progress, runs, uses, most, product):
-    """Proves all crates but the last, those of both rows side by side. Returns whether they are proved."""
-    beside = [it for it in BESIDE if it in progress.crates]
-    rows = {TOP: [it for it in progress.crates if it not in (*beside, product.crate)], COPY: list(beside)}
-    make_copy({it for crate in beside for it in [*below(crate, uses), crate]})
-    proved, running = set(), {}
-    while any(rows.values()) or running:
-        for top, row in rows.items():
-            if top not in running and row and proved.issuperset(uses[row[0]]):
-                crate = row.pop(0)
-                progress.begin(crate)
-                running[top] = Run(top, crate, "lib", "--jobs", str(most - 1 if crate in LARGE else 1))
-                runs.append(running[top])
+def begin(crate, top, by, progress, runs, uses):
+    """Begins the proof of a crate in a checkout, over the libraries that were proved in others."""
+    if top != TOP:
+        for it in below(crate, uses):
+            if not has_library(top, it):
+                lend(it, TOP, top, ["rlib"])
+        lend(crate, TOP, top)
+    progress.begin(crate)
+    return started(runs, top, crate, by, "lib")
+
+
+def prove_side_by_side(progress, runs, uses, most, product):
+    """Proves all crates but the last, as many at a time as there are jobs. Returns whether they are proved."""
+    left = progress.crates[:-1]
+    tops = [TOP, *(f"{COPIES}/{number}" for number in range(1, most))]
+    for top in tops[1:]:
+        make_copy(top, left)
+    order, proved, running = lines_above(progress.crates, uses), set(), {}
+    left.sort(key=order.get, reverse=True)
+    while left or running:
+        while ready := [it for it in left if proved.issuperset(uses[it])]:
+            free = most - sum(it.jobs for it in running.values())
+            if free < 1:
+                break
+            is_first = all(order[ready[0]] >= order[it.crate] for it in running.values())
+            # (a large crate takes what no other can use, too)
+            by = min(max(FIRST_JOBS if is_first else 1, free - len(ready) + 1), free) if lines_of(ready[0]) >= LARGE else 1
+            top = next(it for it in tops if it not in running)
+            running[top] = begin(ready[0], top, by, progress, runs, uses)
+            left.remove(ready[0])
         read_until_end(list(running.values()), progress)
         for top, proofs in [it for it in running.items() if not it[1].is_open]:
-            target = TOP if top == COPY else COPY
-            if os.path.isdir(f"{target}/crates/{proofs.crate}"):
-                lend(proofs.crate, top, target)
+            if top != TOP:
+                lend(proofs.crate, top, TOP)
             if not ended(proofs, progress, product):
                 return False
             proved.add(proofs.crate)
@@ -277,21 +341,20 @@ def prove_in_turn(progress, runs, product):
     """Proves all crates but the last, one after another. Returns whether they are proved."""
     for crate in progress.crates[:-1]:
         progress.begin(crate)
-        runs.append(Run(TOP, crate, "lib", "--jobs", "1"))
-        read_until_end(runs[-1:], progress)
-        if not ended(runs[-1], progress, product):
+        proofs = started(runs, TOP, crate, 1, "lib")
+        read_until_end([proofs], progress)
+        if not ended(proofs, progress, product):
             return False
     return True
 
 
 def build(progress, runs, uses, most, product):
     """Proves all crates, and builds the product with the last: a command more would check it once more. Returns whether it is built."""
-    if not (prove_rows(progress, runs, uses, most, product) if most > 1 else prove_in_turn(progress, runs, product)):
+    if not (prove_side_by_side(progress, runs, uses, most, product) if most > 1 else prove_in_turn(progress, runs, product)):
         return False
     progress.begin(product.crate)
     command, words = product.last
-    proofs = Run(TOP, product.crate, command, "--jobs", str(most), *words)
-    runs.append(proofs)
+    proofs = started(runs, TOP, product.crate, most, command, *words)
     read_until_end([proofs], progress)
     if not ended(proofs, progress, product):
         return False
@@ -309,10 +372,10 @@ def end_by(number, _):
 
 
 def main():
-    if sys.argv[1:] not in ([], ["library"]):
-        sys.stderr.write("usage: build.py [library]\n")
+    product = {"": PROGRAM, "library": LIBRARY, "offline": OFFLINE}.get(" ".join(sys.argv[1:]))
+    if not product:
+        sys.stderr.write("usage: build.py [library | offline]\n")
         return 2
-    product = LIBRARY if sys.argv[1:] else PROGRAM
     uses = dependencies()
     progress = Progress([*below(product.crate, uses), product.crate], product)
     runs = []
@@ -328,11 +391,11 @@ def main():
         finally:
             for it in runs:
                 it.stop()
-            # What was proved of the crate that was stopped is kept.
-            for it in runs[-2:]:
-                if it.top == COPY and it.crate not in progress.done:
-                    lend(it.crate, COPY, TOP)
-            shutil.rmtree(COPY, ignore_errors=True)
+            # What was proved of the crates that were stopped is kept.
+            for it in runs:
+                if it.top != TOP and it.crate not in progress.done:
+                    lend(it.crate, it.top, TOP)
+            shutil.rmtree(COPIES, ignore_errors=True)
             progress.wipe()
 
 

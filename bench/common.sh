@@ -13,14 +13,33 @@ build() {
     "$top/llrp" --help > "$work/help"
 }
 
-# Proves and builds a benchmark's program, and runs it once: its crate, its input, its words. Where that fails,
-# the benchmark ends and shows why.
+# The program that repeats calls.
+# shellcheck disable=SC2034 # (the benchmarks use it)
+loop="$top/crates/bench_calls/out/bench_calls"
+
+# Whether it is missing, or a source is newer. The merge gate leaves the one that it built.
+is_stale() {
+    [ ! -x "$loop" ] || [ -n "$(find "$top/crates" "$top/crates.txt" -name out -prune -o \
+        \( -name '*.rt' -o -name '*.antt' -o -name crates.txt \) -newer "$loop" -print -quit)" ]
+}
+
+# Runs it with these words, and proves and builds it first where need be.
+run_loop() {
+    if is_stale; then
+        (cd "$top/crates/bench_calls" && rt run -- "$@")
+    else
+        "$loop" "$@"
+    fi
+}
+
+# Proves and builds that program where need be, and runs it once: its input, its words. Where that fails, the benchmark ends and
+# shows why.
 build_and_run() {
-    local crate="$1" input="$2"
-    shift 2
-    if ! (cd "$top/crates/$crate" && rt run -- "$@" < "$input") > "$work/build" 2>&1; then
+    local input="$1"
+    shift
+    if ! run_loop "$@" < "$input" > "$work/build" 2>&1; then
         tail -n 20 "$work/build" >&2
-        echo "$crate: the build or its first run failed" >&2
+        echo "bench_calls $1: the build or its first run failed" >&2
         exit 2
     fi
 }

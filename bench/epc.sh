@@ -10,8 +10,6 @@ set -eu
 . "$(dirname "$0")/common.sh"
 count="${1:-2100}"
 turns=5
-crate="$top/crates/bench_epc"
-loop="$crate/out/bench_epc"
 other="${2:-}"
 
 # Words of a kind as lines of 24 digits, with numbers of all lengths: the company prefix has seven digits.
@@ -38,18 +36,18 @@ with_turns() {
     cat "$2"
 }
 
-# The instructions of a program's loop over a file, turned over this many times.
+# The instructions of the loop over a file, turned over this many times.
 instructions() {
-    with_turns "$2" "$3" > "$work/input"
-    valgrind --tool=callgrind --callgrind-out-file=/dev/null "$1" < "$work/input" 2>&1 > /dev/null |
+    with_turns "$1" "$2" > "$work/input"
+    valgrind --tool=callgrind --callgrind-out-file=/dev/null "$loop" epc < "$work/input" 2>&1 > /dev/null |
         awk '/Collected/ { print $4 }'
 }
 
-# The instructions of a program for each line of a file.
+# The instructions for each line of a file.
 instructions_a_line() {
     local few many
-    few="$(instructions "$1" 1 "$2")"
-    many="$(instructions "$1" "$((1 + turns))" "$2")"
+    few="$(instructions 1 "$1")"
+    many="$(instructions "$((1 + turns))" "$1")"
     echo "$(((many - few) / turns / count))"
 }
 
@@ -58,24 +56,21 @@ lines_a_second() {
     local began ended
     with_turns 2000 "$1" > "$work/input"
     began="$(date +%s%N)"
-    "$loop" < "$work/input" > /dev/null 2>&1
+    "$loop" epc < "$work/input" > /dev/null 2>&1
     ended="$(date +%s%N)"
     awk -v count="$count" -v nanoseconds="$((ended - began))" \
         'BEGIN { printf "%.1f", count * 2000 * 1e3 / nanoseconds }'
 }
 
-if ! (cd "$crate" && rt run < stdin) > "$work/build" 2>&1; then
-    tail -n 20 "$work/build" >&2
-    exit 2
-fi
+build_and_run "$top/crates/bench_calls/stdin" epc
 printf '%-8s %14s %14s %14s %14s\n' '' 'word to text' 'text to word' 'million a s' 'and back'
 for kind in sgtin sscc sgln grai gdti gsrn gid raw mix; do
     make_words "$kind" > "$work/words"
-    "$loop" < "$work/words" > "$work/texts" 2> /dev/null
-    "$loop" < "$work/texts" > "$work/back" 2> /dev/null
+    "$loop" epc < "$work/words" > "$work/texts" 2> /dev/null
+    "$loop" epc < "$work/texts" > "$work/back" 2> /dev/null
     cmp "$work/back" "$work/words"
     printf '%-8s %14s %14s %14s %14s\n' "$kind" \
-        "$(instructions_a_line "$loop" "$work/words")" "$(instructions_a_line "$loop" "$work/texts")" \
+        "$(instructions_a_line "$work/words")" "$(instructions_a_line "$work/texts")" \
         "$(lines_a_second "$work/words")" "$(lines_a_second "$work/texts")"
 done
 [ -z "$other" ] || "$other"

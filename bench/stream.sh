@@ -37,7 +37,7 @@ keepalives() {
 
 # The instructions of this many decodes and this many readings.
 count() {
-    valgrind --tool=callgrind --callgrind-out-file=/dev/null "$top/crates/bench_stream/out/bench_stream" "$1" "$2" \
+    valgrind --tool=callgrind --callgrind-out-file=/dev/null "$loop" stream "$1" "$2" \
         < "$work/stream" 2>&1 > "$work/output" | sed -n 's/.*refs: *//p' | tr -d ','
 }
 
@@ -54,7 +54,7 @@ measure_stream() {
 
 reports 1 > "$work/stream"
 echo >> "$work/stream"
-build_and_run bench_stream "$work/stream" 1 1
+build_and_run "$work/stream" stream 1 1
 measure_stream reports reports 20
 measure_stream events events 1000
 measure_stream keepalive keepalives 2000

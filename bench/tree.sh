@@ -33,7 +33,7 @@ make_frame() {
 # The processor's seconds in the program and in the kernel, for this many decodes and this many encodes.
 seconds() {
     local TIMEFORMAT='%U %S'
-    { time "$top/crates/bench_tree/out/bench_tree" "$1" "$2" < "$work/frame" > "$work/output"; } 2>&1
+    { time "$loop" tree "$1" "$2" < "$work/frame" > "$work/output"; } 2>&1
 }
 
 # A name, how many octets, and the seconds with the work and without.
@@ -56,6 +56,6 @@ measure_frames() {
 }
 
 make_frame short_report 1 44 > "$work/frame"
-build_and_run bench_tree "$work/frame" 1 1
+build_and_run "$work/frame" tree 1 1
 measure_frames full_report 963 68 "$times"
 measure_frames short_report 100 34 "$((20 * times))"

@@ -1,7 +1,8 @@
 #!/usr/bin/env python3
 """Runs `access` against a reader with tags that have memory of their own: banks, passwords and locks. Its rows read a TID, write and verify
 user memory, give a new EPC, lock, and go wrong in each way that has a name: a wrong password, a locked bank, a bank too short, two tags, no
-tag, a status with a text, a lost connection, no report. Then a thousand tags each get an EPC and a word, which are verified.
+tag, a status with a text, a lost connection, no report. Tags whose EPCs begin alike are told apart, by readers that each misbehave in one
+way. Then a thousand tags each get an EPC and a word, which are verified.
 
 usage: tests/access.py [PROGRAM]
 
@@ -22,7 +23,7 @@ from parts.counting import finish_results
 from parts.repository import program_given
 
 # How many comparisons there are.
-LEAST = 1050
+LEAST = 1100
 # How long a run may take, in seconds.
 LONGEST = 20
 # How many tags the last rows write, and how many at a time.
@@ -41,6 +42,8 @@ OWN_ID = 5084
 
 # Two EPCs, with the text of the second.
 OLD, NEW = bytes.fromhex("3074257BF7194E4000001A85"), bytes.fromhex("3074257BF7194E4000001A86")
+# The first of them with a word more, the front that both have, and an EPC that begins one of six octets.
+LONGER, FRONT, SHORT = OLD + b"\x01\x02", OLD[:10], bytes.fromhex("E28011223344")
 OLD_URI, NEW_URI = "urn:epc:tag:sgtin-96:3.0614141.812345.6789", "urn:epc:tag:sgtin-96:3.0614141.812345.6790"
 TID = [0xE200, 0x3412, 0x0130, 0xF000, 0x0001, 0x0002]
 
@@ -79,6 +82,11 @@ def octets_of(words):
     return struct.pack(f">{len(words)}H", *words)
 
 
+def bits_of(octets):
+    """The bits of octets, as digits."""
+    return "".join(f"{octet:08b}" for octet in octets)
+
+
 class Tag:
     """A tag of C1G2: bank 0 has the passwords, 1 the checksum, the control word and the EPC, 2 the TID, 3 the user's words."""
 
@@ -91,6 +99,16 @@ class Tag:
         """As many words as the control word counts."""
         count = self.banks[1][1] >> 11
         return octets_of((self.banks[1] + [0] * 40)[2 : 2 + count])
+
+    def fits(self, target):
+        """Whether the bits of a bank from a pointer on are the data of a C1G2TargetTag, where its mask has a one; each has to be there."""
+        head, pointer, count = struct.unpack(">BHH", target[:5])
+        mask = bits_of(target[5:])[:count]
+        rest = target[5 + (count + 7) // 8 :]
+        data = bits_of(rest[2:])[: struct.unpack(">H", rest[:2])[0]]
+        there = bits_of(octets_of(self.banks[head >> 6]))[pointer : pointer + count]
+        agree = len(there) == len(data) == count and all(m == "0" or d == b for m, d, b in zip(mask, data, there))
+        return agree == bool(head & 32)
 
     def may(self, password):
         """Whether the password opens what is locked; where the tag has none nothing is."""
@@ -197,25 +215,23 @@ class Reader:
 
     @staticmethod
     def parsed(body):
-        """The id, the EPC and the operations of an AccessSpec."""
+        """The id, the antenna, the targets and the operations of an AccessSpec, which is for C1G2 and disabled."""
         (kind, spec), = parameters(body)
-        assert kind == 207 and spec[4:10] == bytes.fromhex("00000100") + spec[8:10] or spec[6] == 1
-        found = {"id": struct.unpack(">I", spec[:4])[0], "operations": []}
+        assert kind == 207 and spec[6:8] == b"\x01\x00"
+        found = {"id": struct.unpack(">I", spec[:4])[0], "antenna": struct.unpack(">H", spec[4:6])[0], "operations": []}
         for kind, inner in parameters(spec[12:]):
             if kind != 209:
                 continue
             for kind, part in parameters(inner):
                 if kind == 338:
-                    (_, target), = parameters(part)
-                    bits = struct.unpack(">H", target[3:5])[0]
-                    found["epc"] = target[5 + bits // 8 + 2 :]
+                    found["targets"] = [target for _, target in parameters(part)]
                 else:
                     found["operations"].append((kind, part))
         return found
 
     def results(self, tag):
         """What the AccessSpec does to a tag, once."""
-        if not (self.enabled and self.spec and tag.epc().startswith(self.spec["epc"])):
+        if not (self.enabled and self.spec and all(tag.fits(it) for it in self.spec["targets"])):
             return b""
         done = struct.pack(">BI", 0x90, self.spec["id"]) + b"".join(tag.do(*it) for it in self.spec["operations"])
         self.spec = None
@@ -226,9 +242,12 @@ class Reader:
         for tag in self.tags:
             epc = tag.epc()
             done = self.results(tag)
-            head = b"\x8d" + epc if len(epc) == 12 else parameter(241, struct.pack(">H", 8 * len(epc)) + epc)
-            client.sendall(frame(REPORTS, 0, parameter(240, head + b"\x81\x00\x01\x86\xc4" + done)))
+            client.sendall(frame(REPORTS, 0, parameter(240, self.named(epc, done) + b"\x81\x00\x01\x86\xc4" + done)))
         client.sendall(frame(KEEPALIVE, 7))
+
+    def named(self, epc, _done):
+        """The EPC-96 or EPCData under which a tag is reported."""
+        return b"\x8d" + epc if len(epc) == 12 else parameter(241, struct.pack(">H", 8 * len(epc)) + epc)
 
 
 class Mute(Reader):
@@ -250,6 +269,63 @@ class Late(Mute):
         return ended
 
 
+class Leaving(Reader):
+    """A reader before which the tags are others once its AccessSpec is added."""
+
+    def __init__(self, tag, other):
+        super().__init__(tag)
+        self.other = other
+
+    def answer(self, client, kind, number, body):
+        if kind == ADD_ACCESS:
+            self.tags = [self.other]
+        return super().answer(client, kind, number, body)
+
+
+class Other(Reader):
+    """A reader that reports what was done under another EPC."""
+
+    def named(self, epc, done):
+        return super().named(NEW if done else epc, done)
+
+
+class Odd(Reader):
+    """A reader that reports EPCs of 90 bits."""
+
+    def named(self, epc, _done):
+        return parameter(241, struct.pack(">H", 90) + epc)
+
+
+class Narrow(Reader):
+    """A reader that takes one C1G2TargetTag and no more."""
+
+    def answer(self, client, kind, number, body):
+        if kind == ADD_ACCESS:
+            self.answers = {ADD_ACCESS: (101, "") if len(self.parsed(body)["targets"]) > 1 else (0, "")}
+        return super().answer(client, kind, number, body)
+
+
+class Forgetful(Reader):
+    """A reader that reports the first result alone."""
+
+    def results(self, tag):
+        kept, self.spec = self.spec, self.spec and {**self.spec, "operations": self.spec["operations"][:1]}
+        done = super().results(tag)
+        self.spec = None if done else kept
+        return done
+
+
+def saying(code, count=None):
+    """A tag that answers each operation with this Result, and each write with this count of words where there is one."""
+    tag = Tag(OLD)
+
+    def result(kind, _code, number, words):
+        return Tag.result(kind, code, number, words if count is None or kind == 344 else [0] * count)
+
+    tag.result = result
+    return tag
+
+
 def run(reader, *words):
     """Status, standard output and standard error of `access`."""
     done = subprocess.run([PROGRAM, "access", f"127.0.0.1:{reader.port}", *words], capture_output=True, timeout=LONGEST, check=False, text=True)
@@ -269,23 +345,23 @@ def reads():
     """What is read."""
     reader = Reader(Tag(OLD))
     result = run(reader, "--tag", "any", "--read", "tid:0:6")
-    yield "TID", result == (0, "read tid:0:6 Success e20034120130f00000010002\n", "")
+    yield "TID", result == (0, f"{OLD_URI} read tid:0:6 Success e20034120130f00000010002\n", "")
     yield "the requests", kinds(reader) == WHOLE
     yield "the acknowledgements", all(number == 7 for kind, number, _ in reader.came if kind == ACK)
     reader = Reader(Tag(NEW), Tag(OLD))
     result = run(reader, "--tag", OLD_URI, "--read", "epc:2:6", "--read", "user:0:2", "--json")
     lines = [json.loads(it) for it in result[1].splitlines()]
-    yield "the tag that is meant", lines[0] == {"operation": "read epc:2:6", "result": "Success", "words": OLD.hex()}
-    yield "two reads", result[0] == 0 and lines[1] == {"operation": "read user:0:2", "result": "Success", "words": "00000000"}
+    yield "the tag that is meant", lines[0] == {"epc": OLD_URI, "operation": "read epc:2:6", "result": "Success", "words": OLD.hex()}
+    yield "two reads", result[0] == 0 and lines[1] == {"epc": OLD_URI, "operation": "read user:0:2", "result": "Success", "words": "00000000"}
     reader = Reader(Tag(OLD))
     result = run(reader, "--tag", OLD.hex(), "--read", "user:7:2")
-    yield "a bank too short", result == (1, "read user:7:2 MemoryOverrunError\n", "llrp: not done\n")
+    yield "a bank too short", result == (1, f"{OLD_URI} read user:7:2 MemoryOverrunError\n", "llrp: not done\n")
     reader = Reader(Tag(OLD, password=0x12345678))
     with tempfile.NamedTemporaryFile("w") as file:
         file.write("12345679\n")
         file.flush()
         result = run(reader, "--tag", "any", "--read", "user:0:1", "--password-file", file.name)
-    yield "a wrong password", result == (1, "read user:0:1 IncorrectPasswordError\n", "llrp: not done\n")
+    yield "a wrong password", result == (1, f"{OLD_URI} read user:0:1 IncorrectPasswordError\n", "llrp: not done\n")
 
 
 def changes():
@@ -294,18 +370,18 @@ def changes():
     reader = Reader(tag)
     start = time.monotonic()
     result = run(reader, "--tag", OLD_URI, "--write", "user:1=1234ABCD", "--verify")
-    yield "a write", result == (0, "write user:1 Success\nread user:1:2 Success 1234abcd\n", "")
+    yield "a write", result == (0, f"{OLD_URI} write user:1 Success\n{OLD_URI} read user:1:2 Success 1234abcd\n", "")
     yield "the tag's memory", tag.banks[3][:4] == [0, 0x1234, 0xABCD, 0]
     yield "the time for further tags", 1 <= time.monotonic() - start < 8
     yield "the requests of a change", kinds(reader) == WHOLE
     tag = Tag(OLD)
     result = run(Reader(tag), "--tag", OLD_URI, "--epc", NEW_URI, "--verify")
-    yield "a new EPC", result == (0, f"write epc:2 Success\nread epc:2:6 Success {NEW.hex()}\n", "")
+    yield "a new EPC", result == (0, f"{OLD_URI} write epc:2 Success\n{OLD_URI} read epc:2:6 Success {NEW.hex()}\n", "")
     yield "its words, and the control word as it was", tag.epc() == NEW and tag.banks[1][1] == 6 << 11
     tag = Tag(bytes(4))
     tag.banks[1] += [0] * 8
     result = run(Reader(tag), "--tag", "any", "--epc", NEW_URI)
-    yield "an EPC of another length", result == (0, "write epc:1 Success\n", "") and tag.epc() == NEW
+    yield "an EPC of another length", result == (0, "00000000 write epc:1 Success\n", "") and tag.epc() == NEW
     tag = Tag(OLD)
     reader = Reader(tag, connections=2)
     run(reader, "--tag", OLD_URI, "--epc", NEW_URI)
@@ -316,15 +392,15 @@ def changes():
         file.write("AABBCCDD\n")
         file.flush()
         result = run(Reader(tag), "--tag", "any", "--lock", "user=lock", "--password-file", file.name)
-    yield "a lock", result == (0, "lock user=lock Success\n", "") and tag.locked == {3}
+    yield "a lock", result == (0, f"{OLD_URI} lock user=lock Success\n", "") and tag.locked == {3}
     result = run(Reader(tag), "--tag", "any", "--write", "user:0=0001")
-    yield "a locked bank", result == (1, "write user:0 TagMemoryLockedError\n", "llrp: not done\n")
+    yield "a locked bank", result == (1, f"{OLD_URI} write user:0 TagMemoryLockedError\n", "llrp: not done\n")
     result = run(Reader(Tag(OLD)), "--tag", "any", "--write", "user:7=00010002")
-    yield "an overrun", result == (1, "write user:7 TagMemoryOverrunError\n", "llrp: not done\n")
+    yield "an overrun", result == (1, f"{OLD_URI} write user:7 TagMemoryOverrunError\n", "llrp: not done\n")
     tag = Tag(OLD)
     tag.result = lambda kind, code, number, words: Tag.result(kind, code, number, [1] if kind == 341 else words)
     result = run(Reader(tag), "--tag", "any", "--write", "user:0=0002", "--verify")
-    yield "other words read back", result == (1, "write user:0 Success\nread user:0:1 Success 0001\n", "llrp: not done\n")
+    yield "other words read back", result == (1, f"{OLD_URI} write user:0 Success\n{OLD_URI} read user:0:1 Success 0001\n", "llrp: not done\n")
 
 
 def bad_ends():
@@ -334,7 +410,7 @@ def bad_ends():
     result = run(reader, "--tag", "any", "--write", "user:0=0001")
     yield "two tags", result == (1, "", "llrp: several tags\n")
     yield "nothing was written", first.banks[3][0] == second.banks[3][0] == 0 and kinds(reader) == UNDONE
-    longer = Tag(OLD + b"\x01\x02")
+    longer = Tag(LONGER)
     reader = Reader(first, longer)
     result = run(reader, "--tag", OLD.hex(), "--write", "user:0=0001")
     yield "a longer EPC that begins so", result == (1, "", "llrp: several tags\n") and kinds(reader) == UNDONE
@@ -366,7 +442,7 @@ def bad_ends():
     result = run(Reader(tag, breaks=(ENABLE_ACCESS, True)), "--tag", "any", "--read", "user:0:1")
     yield "one lost in a read", result == (1, "", "llrp: early\n")
     result = run(Reader(tag, breaks=(CLOSE, False)), "--tag", "any", "--read", "tid:0:1")
-    yield "one lost at the end", result == (0, "read tid:0:1 Success e200\n", "")
+    yield "one lost at the end", result == (0, f"{OLD_URI} read tid:0:1 Success e200\n", "")
 
 
 def silences():
@@ -384,7 +460,106 @@ def silences():
     yield "an AccessSpec that is not enabled", result == (1, "", "llrp: status 100\n") and kinds(reader) == WHOLE
     reader = Late(Tag(OLD))
     result = run(reader, "--tag", "any", "--write", "user:0=0001", "--timeout", "1")
-    yield "a report that comes late", result == (0, "write user:0 Success\n", "") and kinds(reader) == WHOLE
+    yield "a report that comes late", result == (0, f"{OLD_URI} write user:0 Success\n", "") and kinds(reader) == WHOLE
+
+
+NOT_DONE, NOT_KNOWN, WRITE = "llrp: not done\n", "llrp: unknown, read again\n", ("--write", "user:0=00010002")
+
+
+def alike():
+    """Tags whose EPCs begin alike, and tags that cannot be named."""
+    first, longer = Tag(OLD), Tag(LONGER)
+    longer.banks[3][0] = 7
+    result = run(Reader(longer, first), "--tag", OLD_URI, "--read", "user:0:1")
+    yield "the shorter is read", result == (0, f"{OLD_URI} read user:0:1 Success 0000\n", "")
+    result = run(Reader(first, longer), "--tag", LONGER.hex(), "--read", "user:0:1")
+    yield "the longer is read", result == (0, f"{LONGER.hex()} read user:0:1 Success 0007\n", "")
+    result = run(Reader(Tag(SHORT)), "--tag", SHORT[:2].hex(), "--read", "tid:0:1", "--timeout", "1")
+    yield "an EPC that begins so is not read", result == (1, "", "llrp: no tag\n")
+    result = run(Reader(Tag(SHORT)), "--tag", SHORT.hex(), "--read", "tid:0:1", "--json")
+    yield "its digits as its name", result[0] == 0 and json.loads(result[1])["epc"] == SHORT.hex()
+    for what, words in {"write": WRITE + ("--verify",), "EPC": ("--epc", NEW_URI), "lock": ("--lock", "user=permanent-lock")}.items():
+        other = Tag(LONGER)
+        result = run(Leaving(Tag(OLD), other), "--tag", OLD_URI, *words, "--timeout", "1")
+        yield f"a tag left, no {what} of another", result == (4, "", NOT_KNOWN)
+        yield f"the other's memory after a {what}", (other.banks, other.locked) == (Tag(LONGER).banks, set())
+    other = Tag(FRONT)
+    result = run(Leaving(Tag(OLD), other), "--tag", "any", *WRITE, "--timeout", "1")
+    yield "a shorter one that comes", result == (4, "", NOT_KNOWN) and other.banks == Tag(FRONT).banks
+    for what, reader in {"an EPC of no bits": Reader(Tag(b"")), "an EPC of no whole words": Odd(Tag(OLD))}.items():
+        result = run(reader, "--tag", "any", *WRITE)
+        yield what, result == (1, "", "llrp: no epc\n") and kinds(reader) == UNDONE and reader.tags[0].banks[3][0] == 0
+    result = run(Reader(Tag(b"")), "--tag", "any", "--read", "tid:0:1")
+    yield "the TID of a tag without EPC", result == (0, "- read tid:0:1 Success e200\n", "")
+    result = run(Reader(Tag(b""), Tag(OLD)), "--tag", "any", *WRITE)
+    yield "one without an EPC and another", result == (1, "", "llrp: several tags\n")
+    tag = Tag(OLD)
+    reader = Narrow(tag)
+    result = run(reader, "--tag", OLD_URI, *WRITE)
+    yield "a second target that is refused", result[:2] == (1, "") and result[2].startswith("llrp: status 101\n") and tag.banks == Tag(OLD).banks
+    yield "there is no second try", kinds(reader) == WHOLE[:6] + WHOLE[7:]
+
+
+def antennas():
+    """The antenna that is asked for."""
+    for words, wanted in (((), 0), (("--antenna", "3"), 3)):
+        reader = Reader(Tag(OLD))
+        result = run(reader, "--tag", "any", "--read", "tid:0:1", *words)
+        bodies = {kind: body for kind, _, body in reader.came}
+        inventory = [part for _, spec in parameters(bodies[ADD_ROSPEC]) for kind, part in parameters(spec[6:]) if kind == 183]
+        yield f"the antenna {wanted} of the AccessSpec", result[0] == 0 and Reader.parsed(bodies[ADD_ACCESS])["antenna"] == wanted
+        yield f"the antenna {wanted} of the ROSpec", [it[:4] for it in inventory] == [struct.pack(">HH", 1, wanted)]
+
+
+def results_in_part():
+    """Results that do not say that all was done, to the tag that was meant."""
+    line = f"{OLD_URI} write user:0"
+    rows = {
+        "an EPC of another": (Other(Tag(OLD)), WRITE, 4, f"{NEW_URI} write user:0 Success\n"),
+        "a lock of another": (Other(Tag(OLD)), ("--lock", "user=lock"), 4, f"{NEW_URI} lock user=lock Success\n"),
+        "a read of another": (Other(Tag(OLD)), ("--read", "tid:0:1"), 1, f"{NEW_URI} read tid:0:1 Success e200\n"),
+        "one word of two written": (Reader(saying(0, 1)), WRITE, 4, f"{line} Success\n"),
+        "no word of two written": (Reader(saying(0, 0)), WRITE, 4, f"{line} Success\n"),
+        "three words of two": (Reader(saying(0, 3)), WRITE, 4, f"{line} Success\n"),
+        "three words for four": (Reader(saying(0, 3)), ("--read", "tid:0:4"), 1, f"{OLD_URI} read tid:0:4 Success 000000000000\n"),
+        "no word for all": (Reader(saying(0, 0)), ("--read", "tid:0:0"), 1, f"{OLD_URI} read tid:0:0 Success\n"),
+        "NonspecificTagError": (Reader(saying(4, 0)), WRITE, 4, f"{line} NonspecificTagError\n"),
+        "NoResponseFromTag": (Reader(saying(5, 0)), WRITE, 4, f"{line} NoResponseFromTag\n"),
+        "NonspecificReaderError": (Reader(saying(6, 0)), WRITE, 4, f"{line} NonspecificReaderError\n"),
+        "InsufficientPower": (Reader(saying(3, 0)), WRITE, 1, f"{line} InsufficientPower\n"),
+        "a failed write that wrote": (Reader(saying(2, 1)), WRITE, 4, f"{line} TagMemoryLockedError\n"),
+        "a number without a name": (Reader(saying(9, 0)), WRITE, 4, f"{line} Unknown 9\n"),
+        "a lock without an answer": (Reader(saying(3)), ("--lock", "user=lock"), 4, f"{OLD_URI} lock user=lock NoResponseFromTag\n"),
+        "a lock with another number": (Reader(saying(8)), ("--lock", "user=lock"), 4, f"{OLD_URI} lock user=lock Unknown 8\n"),
+        "a read without an answer": (Reader(saying(2, 0)), ("--read", "tid:0:1"), 1, f"{OLD_URI} read tid:0:1 NoResponseFromTag\n"),
+        "a read with another number": (Reader(saying(7, 0)), ("--read", "tid:0:1"), 1, f"{OLD_URI} read tid:0:1 Unknown 7\n"),
+        "one result of two": (Forgetful(Tag(OLD)), WRITE + ("--verify",), 4, f"{line} Success\n{OLD_URI} read user:0:2 NoResult\n"),
+        "one read of two": (
+            Forgetful(Tag(OLD)),
+            ("--read", "tid:0:1", "--read", "tid:1:1"),
+            1,
+            f"{OLD_URI} read tid:0:1 Success e200\n{OLD_URI} read tid:1:1 NoResult\n",
+        ),
+    }
+    for what, (reader, words, code, lines) in rows.items():
+        result = run(reader, "--tag", OLD_URI, *words)
+        yield what, result == (code, lines, NOT_KNOWN if code == 4 else NOT_DONE)
+    result = run(Other(Tag(OLD)), "--tag", OLD_URI, "--epc", NEW_URI, "--verify")
+    yield "results under the new EPC", result[0] == 0 and result[1].startswith(f"{NEW_URI} write epc:2 Success\n")
+    result = run(Other(Tag(OLD)), "--tag", "any", "--read", "tid:0:1")
+    yield "any tag is what one report says", result == (0, f"{NEW_URI} read tid:0:1 Success e200\n", "")
+    result = run(Reader(saying(9, 0)), "--tag", OLD_URI, *WRITE, "--json")
+    yield "a number in an object", json.loads(result[1]) == {"epc": OLD_URI, "operation": "write user:0", "result": "Unknown 9"}
+
+
+def watched():
+    """The messages of `watch --access`: those that add and enable stand before ENABLE_ROSPEC, the one that deletes before DELETE_ROSPEC."""
+    reader = Reader(Tag(OLD))
+    command = [PROGRAM, "watch", f"127.0.0.1:{reader.port}", "--access", "examples/tid.access", "--for", "1"]
+    done = subprocess.run(command, capture_output=True, timeout=LONGEST, check=False)
+    came = [it for it in kinds(reader) if it in (DELETE_ACCESS, DELETE_ROSPEC, ADD_ACCESS, ENABLE_ACCESS, ENABLE_ROSPEC)]
+    wanted = [DELETE_ACCESS, DELETE_ROSPEC, ADD_ACCESS, ENABLE_ACCESS, ENABLE_ROSPEC, DELETE_ACCESS, DELETE_ROSPEC]
+    yield "a file of watch", done.returncode == 0 and came == wanted
 
 
 def bad_words():
@@ -430,7 +605,7 @@ def labels():
 
 
 def main():
-    results = [*reads(), *changes(), *bad_ends(), *silences(), *bad_words(), *labels()]
+    results = [*reads(), *changes(), *bad_ends(), *silences(), *alike(), *antennas(), *results_in_part(), *watched(), *bad_words(), *labels()]
     return finish_results(results, LEAST)
 
 

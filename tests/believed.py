@@ -18,6 +18,8 @@ from parts.counting import finish_results, text_of
 from parts.definitions import Tree, clauses_of, exports_of
 from parts.repository import TOP
 
+# How many cases there are.
+LEAST = 980
 CALLS, PRIVATE = "Calls", "Private"
 
 # Its crates came last: what only it rests on may stand in specs/Calls/ of a crate below them.
@@ -80,8 +82,8 @@ BESIDES = {
 WORDS = "words to calls"
 ALL = "1 to 11, and words to calls"
 COMMANDS = {
-    WORDS: "llrp_commands::run_command/show/encode/names/labels_shown/labels_encoded/epc/options/file/fields/explain/refused/elsewhere/errors"
-           " llrp_commands::network_command llrp_commands::write_refusal llrp::plan_of llrp::read_plan"
+    WORDS: "llrp_commands::run_command/runs/errors"
+           " llrp_words::network_command llrp_commands::write_refusal llrp::plan_of llrp::read_plan"
            " llrp::made_plan llrp::watch_plan llrp_endpoints::Script::read",
 }
 
@@ -255,7 +257,7 @@ def main():
     print("| promises | definitions | lines | files | lines of files |")
     for title in count:
         print(count[title].row(title))
-    return finish_results([*results(tree, count), *results_of_sizes(count), *results_of_clauses(tree)], 500)
+    return finish_results([*results(tree, count), *results_of_sizes(count), *results_of_clauses(tree)], LEAST)
 
 
 if __name__ == "__main__":

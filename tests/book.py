@@ -17,7 +17,7 @@ from parts.counting import finish_results, text_of
 from parts.definitions import Tree
 from parts.repository import TOP
 
-LEAST = 1500
+LEAST = 2000
 # Elements without an end.
 VOID = ("meta",)
 

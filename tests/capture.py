@@ -15,10 +15,10 @@ import subprocess
 import sys
 import tempfile
 
-from parts.counting import finish_results
+from parts.counting import finish_results, text_of
 from parts.repository import TOP, program_given
 
-LEAST = 55
+LEAST = 61
 FIN, SYN, PSH, ACK = 1, 2, 8, 16
 KEEPALIVE = [bytes.fromhex("083E0000000A") + struct.pack(">I", number) for number in range(40)]
 REPORT = bytes.fromhex("043D0000001B0000000100F000118D3074257BF7194E4000001A85")
@@ -229,9 +229,30 @@ def of_refusals(program):
     yield "another port", all(side == "client" for _, _, side, _ in parted(wrong))
 
 
+def of_pages():
+    """Yields whether docs/capture.md has the reasons of the sources, and how much the listing of segments holds."""
+    page, reasons = text_of("docs/capture.md"), set()
+    for source, function in (("llrp_sides/src/failure.rt", "pub fn name"), ("llrp_sides/src/failure.rt", "fn segment_name")):
+        body = text_of(f"crates/{source}").split(function)[1].split("\n}\n")[0]
+        reasons |= set(re.findall(r'=> "(\w+)"', body))
+    table = page.split("| Reason | What is wrong |")[1].split("\n\n")[0]
+    named = set(re.findall(r"`(\w+)`", "".join(re.findall(r"(?m)^\| ([^|]*) \|", table))))
+    yield f"docs/capture.md: the reasons {named ^ reasons}", named == reasons - {"Memory"} and len(reasons) > 8
+    for source, name, told in (
+        ("llrp_capture/src/connections.rt", "MOST_CONNECTIONS", "At most {} connections may be open at once"),
+        ("llrp_capture/src/connections.rt", "MOST_CONNECTIONS", "it begins a connection, and {} are open"),
+        ("llrp_sides/src/line_reader.rt", "LONGEST_LINE", "has more than {} octets"),
+    ):
+        number = re.search(rf"const {name}: usize = ([\d_]+);", text_of(f"crates/{source}"))[1].replace("_", "")
+        words = told.format(f"{int(number):,}")
+        yield f"docs/capture.md: {words}", words in " ".join(page.split())
+    reach = int(re.search(r"const REACH: usize = ([\d_]+);", text_of("crates/llrp_capture/src/reassembly.rt"))[1].replace("_", "")) // 1024
+    yield f"docs/capture.md: {reach} KiB", f"if they are no more than {reach} KiB ahead" in " ".join(page.split())
+
+
 def main():
     program = program_given()
-    results = [*of_captures(program), *of_long_frames(program), *of_json(program), *of_refusals(program)]
+    results = [*of_captures(program), *of_long_frames(program), *of_json(program), *of_refusals(program), *of_pages()]
     return finish_results(results, LEAST)
 
 

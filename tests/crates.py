@@ -13,7 +13,7 @@ import sys
 from parts.counting import finish_results, text_of
 from parts.repository import TOP
 
-LEAST = 58
+LEAST = 81
 
 
 def listed():

@@ -22,12 +22,14 @@ from parts.repository import TOP, program_given
 # How many commands each document has.
 DOCUMENTS = {"README.md": 8, "docs/capture.md": 8, "docs/client.md": 1, "docs/errors.md": 3, "docs/json.md": 6, "docs/sim.md": 20}
 # How many libraries have an example, and where the tests are that run them.
-LIBRARIES = 20
-TESTS = ("crates/test_libraries/src/examples", "crates/test_ends/src", "crates/test_keys/src")
+LIBRARIES = 31
+TESTS = ("crates/test_libraries/src/examples", "crates/test_ends/src")
+# Libraries whose example is a sketch of how the programs call them, since they are over the words and files of a process.
+SKETCHES = ("llrp_files", "llrp_words")
 # Comes after what a command prints, with its status.
 MARK = "--- status"
-# How long a block may take, in seconds.
-LONGEST = 300
+# How long a block may take, in seconds, and how long one that the toolchain compiles anew, which takes a minute and a half of the processor.
+LONGEST, LONGEST_UNPROVED = 300, 1800
 # Waits until a command succeeds, for a minute at most.
 AWAIT = 'await() { for ((n = 0; n < 1200; n++)); do "$@" && return; sleep 0.05; done; echo "waited in vain: $*"; }'
 
@@ -65,12 +67,14 @@ def wanted_status(wanted):
     return 1 if any(line.startswith(("! ", '{"fault"')) for line in wanted) else 0
 
 
-def ended(script):
-    """Runs a script of bash. Returns its status, none where it took too long, what it printed and its errors."""
-    how = {"cwd": TOP, "stdout": subprocess.PIPE, "stderr": subprocess.PIPE, "text": True, "start_new_session": True}
+def ended(script, folder):
+    """Runs a script of bash, whose temporary files are below a folder, so that none is left of one that is ended. Returns its status, none where
+    it took too long, what it printed and its errors."""
+    how = {"cwd": TOP, "stdout": subprocess.PIPE, "stderr": subprocess.PIPE, "text": True, "start_new_session": True, "env": {**os.environ, "TMPDIR": folder}}
+    longest = LONGEST_UNPROVED if "--unproved" in script else LONGEST
     process = subprocess.Popen(["bash", "-c", script], **how)
     try:
-        out, err = process.communicate(timeout=LONGEST)
+        out, err = process.communicate(timeout=longest)
         return process.returncode, out, err
     except subprocess.TimeoutExpired:
         os.killpg(process.pid, signal.SIGKILL)
@@ -79,8 +83,8 @@ def ended(script):
 
 def failures(block, program):
     """Yields the commands of a block that do not print what is shown, or end otherwise, and what they printed."""
-    with tempfile.TemporaryDirectory(prefix="a space ") as folder:
-        status, out, err = ended(script_of([command for command, _ in block], program, folder))
+    with tempfile.TemporaryDirectory(prefix="a space ") as folder, tempfile.TemporaryDirectory(ignore_cleanup_errors=True) as temporary:
+        status, out, err = ended(script_of([command for command, _ in block], program, folder), temporary)
     printed = re.findall(rf"(?ms)(.*?^{MARK} \d+\n)", out)
     for (command, wanted), found in zip(block, [*printed, *[""] * len(block)]):
         if found.splitlines() != [*wanted, f"{MARK} {wanted_status(wanted)}"]:
@@ -94,8 +98,16 @@ def squeezed(text):
     return re.sub(r",(?=[\])}])", "", re.sub(r"\s", "", text))
 
 
+def is_sketch(example, text):
+    """Returns whether the functions that an example calls are those that the library gives."""
+    given = " ".join(re.findall(r"(?ms)^pub use (.*?);", text))
+    called = re.findall(r"(?<![.\w])([a-z]\w+)\(", example)
+    return called != [] and all(re.search(rf"\b{it}\b", given) for it in called)
+
+
 def libraries():
-    """Yields each library that has an example, and whether the tests whose names begin with the library's have its lines in order."""
+    """Yields each library that has an example, and whether the tests whose names begin with the library's have its lines in order, or where it is
+    a sketch whether the library has what it calls."""
     files = [f"{folder}/{name}" for folder in TESTS for name in sorted(os.listdir(os.path.join(TOP, folder)))]
     tests = re.sub(r"(?m)^ *//.*", "", "".join(map(text_of, files)))
     for crate in sorted(os.listdir(os.path.join(TOP, "crates"))):
@@ -104,7 +116,8 @@ def libraries():
         for example in re.findall(r"(?ms)^//! ```\n(.*?)^//! ```$", text):
             lines = re.sub(r"(?m)^//! ?", "", example).splitlines()
             found = squeezed("".join(re.findall(rf"(?ms)^fn {crate}_\w+\(.*?^}}", tests)))
-            yield crate, re.search(".*".join(re.escape(squeezed(line)) for line in lines if line), found) is not None
+            is_run = re.search(".*".join(re.escape(squeezed(line)) for line in lines if line), found) is not None
+            yield crate, is_sketch(example, text) if crate in SKETCHES else is_run
 
 
 def main():
@@ -124,7 +137,7 @@ def main():
     for crate, is_run in libraries():
         passed, failed = passed + is_run, failed + (not is_run)
         if not is_run:
-            print(f"WRONG: {crate}: its example is not what its test runs")
+            print(f"WRONG: {crate}: its example is not what its test runs, or calls what it does not have")
     return finish(passed, failed, sum(DOCUMENTS.values()) + LIBRARIES)
 
 

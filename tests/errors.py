@@ -19,7 +19,7 @@ from failing_devices import ANSWERS, inventory_from, sim_to
 from parts.ports import free_port
 from parts.repository import TOP, program_given
 
-LEAST = 144
+LEAST = 154
 PAGE = "docs/errors.md"
 # The most memory that refusing an endless script or ROSpec may take, in kilobytes.
 MOST_MEMORY = 65_536
@@ -27,7 +27,7 @@ MOST_MEMORY = 65_536
 LINES = ("crates/llrp_commands/src/command.rt", "write_error", 11)
 # The first words of the lines that the program writes itself, some of two lines.
 ELSEWHERE = (
-    "FILE access access answers answers expect file line name network no not password power prefixes prefixes rospec rospec save script script several unknown,"
+    "FILE access access answers answers expect file line name network no no not password power prefixes prefixes rospec rospec save script script several unknown,"
 ).split()
 REASONS = ("crates/llrp_listing/src/outcome.rt", "names", 9)
 NODES = ("crates/llrp_listing/src/outcome.rt", "node_fault_name", 8)
@@ -140,6 +140,9 @@ def figures():
     yield rf"\b({'|'.join(WORDS)}) schemes\b", WORDS[len(re.findall(r"(?m)^    \w+,", kinds)) - 1]
     yield rf"\b({'|'.join(WORDS)}) for each (?:open )?node", WORDS[1]
     yield r"or a message than (\d+(?:,\d{3})*)", constant("MAX_LIMIT", tree)
+    yield r"`OverLimit` above (\d+(?:,\d{3})*) octets", constant("LONGEST_ROSPEC", "crates/llrp_endpoints/src/plan.rt")
+    # (a line that is longer than it may be by one octet)
+    yield r"a line has (\d+) octets without", str(int(constant("LONGEST_ENTRY", "crates/llrp_endpoints/src/script.rt")) + 1)
 
 
 def checks_of_figures():
@@ -269,6 +272,10 @@ def checks_of_lines(program):
     with open("/dev/full", "wb") as full:
         done = subprocess.run([program, "epc", "0" * 24], stdout=full, stderr=subprocess.PIPE, timeout=60)
     yield "write", (done.returncode, done.stderr) == (3, b"llrp: write\n")
+    status, out, said = run(program, *code["name;"][0].split()[1:])
+    nearest = said.removeprefix("llrp: name; nearest: ").rstrip("\n").split(", ")
+    is_told = said.startswith("llrp: name; nearest: ") and said.count("\n") == 1 and "KEEPALIVE" in nearest and len(nearest) <= 5
+    yield f"name: {said}", (status, out) == (1, b"") and is_told
     yield "network", run(program, "inventory", "127.0.0.1", str(free_port())) == (3, b"", "llrp: network\n")
     yield "broken", sim_to(program, bytes.fromhex(code["broken"][0])) == (1, "llrp: broken\n")
     refusal = "041E0000001200000001 011F000800650000"

@@ -27,7 +27,7 @@ from parts.ports import held_port, listens_at, wait_until
 from parts.repository import TOP, program_given
 
 # How many runs there are: with each device, and with a peer that does each of three things after each octet.
-LEAST = 2283
+LEAST = 2285
 # How long a run may take, and how long a peer that pauses does nothing, in seconds.
 LONGEST, PAUSE = 20, 0.02
 # How many connections at a time.
@@ -75,6 +75,8 @@ ANSWERS = [
     "04040000001200000007 011F000800000000",
 ]
 FIRST_REPORT, SECOND_REPORT = 5, 6
+# A report of two tags in the place of the first: of the second one EPCData has 4 bits, and nothing else is said of it (LLRP 1.1, section 17.2.7).
+OTHER_TAGS = "043D0000002B00000003 00F00016 8D3074257BF7194E4000001A85 810001 86C4 00F0000B 00F10007 0004 A0"
 KEEPALIVES = bytes.fromhex("043E0000000A00000063") * 1000
 # The documented error lines, and their statuses.
 STATUS_OF = {b"llrp: early\n": 1, b"llrp: read\n": 3, b"llrp: write\n": 3, b"llrp: network\n": 3}
@@ -465,18 +467,43 @@ def terminal_runs(program):
     yield "encode in a terminal", in_terminal(program, ["encode", "--hex"], listing) == (0, digits, waiting)
     yield "loop in a terminal", b"waiting" not in in_terminal(program, ["loop"], b"")[2]
     yield from (("the count of loop in a terminal" + option, counts_in_terminal(program, option)) for option in ("", " --json"))
+    yield from (("the count of inventory in a terminal" + option, counts_of_inventory(program, option)) for option in ("", " --json"))
     yield "help in a terminal", in_terminal(program, ["show", "--help"], b"")[2] == b""
     run = start(program, ["show", "--hex"])
     yield "show in a pipe", end(run, digits) == (0, listing, b"")
 
 
+def counts_to(shown, tags):
+    """Returns whether a terminal shows a count from none to so many tags, each number in the place of the one before, and in the end none."""
+    counts = [int(it) for it in re.findall(rb"\rllrp: connected, (\d+) tags\r\x1b\[K", shown)]
+    is_whole = re.fullmatch(rb"(?:\rllrp: connected, \d+ tags\r\x1b\[K)+", shown) is not None
+    return is_whole and counts == sorted(counts) and (counts[0], counts[-1]) == (0, tags)
+
+
 def counts_in_terminal(program, option):
-    """Returns whether `loop` shows how many tags it printed so far, from none to all, and wipes that at the end."""
+    """Returns whether `loop` shows how many tags it printed so far."""
     status, out, shown = in_terminal(program, f"loop --every 2{option}".split(), SCRIPT)
-    counts = re.findall(rb"\rllrp: connected, (\d+) tags", shown)
-    there = [out[:at].count(b"urn:epc:") for at in (0, len(out))]
-    is_count = counts == sorted(counts) and (counts[:1], counts[-1:]) == ([b"0"], [b"3"])
-    return status == 0 and there == [0, 3] and is_count and shown.endswith(b"\r\x1b[K")
+    return status == 0 and out.count(b"urn:epc:") == 3 and counts_to(shown, 3)
+
+
+def counts_of_inventory(program, option):
+    """Returns whether `inventory` counts a tag whose EPC has four bits as it does the others, and no other line."""
+    frames = [*ANSWERS[:FIRST_REPORT], OTHER_TAGS, *ANSWERS[SECOND_REPORT:]]
+
+    def answer(listener):
+        peer, _ = listener.accept()
+        with peer:
+            peer.sendall(octets(frames))
+            peer.shutdown(socket.SHUT_WR)
+            read_to_end(peer)
+
+    with socket.create_server(("127.0.0.1", 0)) as listener, concurrent.futures.ThreadPoolExecutor(1) as pool:
+        listener.settimeout(LONGEST)
+        answering = pool.submit(answer, listener)
+        port = str(listener.getsockname()[1])
+        status, out, shown = in_terminal(program, ["inventory", "127.0.0.1", port, "--every", "2", *option.split()], b"")
+        answering.result(LONGEST)
+    return (status, out.count(b"urn:epc:"), out.count(b"bits 4 xa0")) == (0, 2, 1) and counts_to(shown, 3)
 
 
 def pipe_with(octets):

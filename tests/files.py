@@ -16,7 +16,7 @@ from parts.repository import program_given
 from parts.vectors import vectors
 
 # How many runs there are at least.
-LEAST = 219
+LEAST = 240
 KEEPALIVE, ACK = bytes.fromhex("083E0000000A00000007"), bytes.fromhex("08480000000A00000007")
 # A message that has fields of other names in the whole standard.
 ROSPEC = bytes.fromhex("043F0000002700000001 00F6001D 0080000C0005AF3107A40000 00F9000D000000000100000000")

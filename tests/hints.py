@@ -14,7 +14,7 @@ import sys
 from parts.counting import finish_results, text_of
 from parts.repository import program_given
 
-LEAST = 40
+LEAST = 77
 KEEPALIVE = bytes.fromhex("083E0000000A00000007")
 # What was given to a command, and a word of the hint; none where there is nothing to say.
 MISTAKES = [

@@ -31,7 +31,7 @@ NUMBERED_FRAMES = 100_000
 # The greatest number up to which jq has each.
 GREATEST_OF_JQ = 2**53
 # How many cases there are.
-LEAST = 40376
+LEAST = 41300
 TAILS = {"words": "words", "text": "text", "bits": "bits", "data": "octets"}
 # Texts with a quote, a backslash, controls, and characters of two, three and four octets; each is that of an LLRPStatus.
 TEXTS = ["", '"', "\\", 'a"b\\c', "".join(map(chr, range(32))), "\x7f", "aß€", "\U0001f600\U00010000\U0010ffff", "\u2028\u2029\ufeff", "</script>"]

@@ -20,7 +20,7 @@ from parts.repository import program_given
 from parts.vectors import vectors
 
 # How many cases there are.
-LEAST = 120
+LEAST = 590
 KEEPALIVE = '{"message":"KEEPALIVE","version":2,"id":7}'
 OCTETS = "083e0000000a00000007"
 TAG = '{"message":"RO_ACCESS_REPORT","version":1,"id":1,"parameters":[{"parameter":"TagReportData","parameters":[%s]}]}'

@@ -5,24 +5,27 @@ listing that `show --keys` prints are compared and read back by `encode --keys`,
 `--schemes all` the forms of random tag URIs of GIAI-96, GSRNP-96, SGCN-96 and CPI-96 are compared in the same way, in listings and inventories
 too, and random words of USDoD-96 and their forms with those that are made of the layout here.
 
-usage: tests/keys.py [PROGRAM]
+usage: tests/keys.py [--seed N] [PROGRAM]
 
-PROGRAM is llrp, crates/llrp/out/llrp where none is given. It needs python3-stdnum. The last line is `N passed, M failed`; the status is 1 if something failed or too little was run.
+PROGRAM is llrp, crates/llrp/out/llrp where none is given. The first line says the seed that the tags are drawn by, with which a run is made
+again. It needs python3-stdnum. The last line is `N passed, M failed`; the status is 1 if something failed or too little was run.
 """
+import argparse
 import json
+import os
 import random
 import subprocess
 import sys
 import tempfile
 
 from parts.counting import finish_results
-from parts.repository import program_given
+from parts.repository import built
 
-# How many tags of each scheme are compared, and how many cases there are.
+# How many tags of each scheme are compared, and how many cases there are (a number of its own, so that it does not fall with the others).
 EACH = 300
+LEAST = 20521
 # How many of them are answered as objects of JSON, for each length of the company prefix.
 OBJECTS = 3
-LEAST = 6 * EACH * 3 + 6 * 7 * (OBJECTS * 2 + 4) + 4 * EACH * 9 + 4 * 7 * 6 + EACH * 8
 # The names of the keys of those schemes.
 NAMES = {"sgtin": "gtin", "sscc": "sscc", "sgln": "gln", "grai": "grai", "gdti": "gdti", "gsrn": "gsrn"}
 # The digits of company prefix and reference together, the digits of the reference that come first in the key, the application identifier and
@@ -328,5 +331,21 @@ def checks(program):
     yield from suppliers(program)
 
 
+def words_given():
+    """Returns the program and the seed that the script's words name, or where they have none the crate's and a new one."""
+    parser = argparse.ArgumentParser()
+    parser.add_argument("--seed", type=int, default=random.randrange(2**32))
+    parser.add_argument("program", nargs="?", default=built("llrp"))
+    given = parser.parse_args()
+    return os.path.abspath(given.program), given.seed
+
+
+def main():
+    program, seed = words_given()
+    print(f"the seed is {seed}: tests/keys.py --seed {seed}")
+    random.seed(seed)
+    return finish_results(list(checks(program)), LEAST)
+
+
 if __name__ == "__main__":
-    sys.exit(finish_results(list(checks(program_given())), LEAST))
+    sys.exit(main())

@@ -3,9 +3,10 @@
 function through the header; compares docs/llrp.3 with the header; and compiles the C that README.md, docs/library.md, docs/llrp.3 and the
 library's own page show.
 
-usage: tests/library.py
+usage: tests/library.py [PROGRAM]
 
-It needs cc, c++, ar, nm and objcopy beside the toolchain's command rt. The last line is `N passed, M failed`; the status is 1 if something failed.
+PROGRAM is bench_calls, crates/bench_calls/out/bench_calls where none is given. It needs cc, c++, ar, nm and objcopy beside the toolchain's
+command rt. The last line is `N passed, M failed`; the status is 1 if something failed.
 """
 import dataclasses
 import json
@@ -21,9 +22,10 @@ from parts.captures import payloads
 from parts.counting import finish_results, snippet, text_of
 from parts.frames import lawful_cases
 from parts.refusing import build_library
-from parts.repository import TOP
+from parts.repository import TOP, program_given
 from parts.refusing import run as run_refused
-from parts.vectors import source, vectors
+from parts.rows import digits_of, rows_in
+from parts.vectors import vectors
 
 sys.path.insert(0, os.path.join(TOP, "python"))
 from llrp_epc import Llrp, Refused, _library  # noqa: E402  (the package of this checkout)
@@ -33,7 +35,7 @@ HEADER = "include/llrp.h"
 # How many frames are listed by one call.
 FRAMES_AT_ONCE = 4000
 # How many cases there are: the functions of the header, the rows of the tests' tables, and what is compared of each.
-LEAST = 973
+LEAST = 1075
 # How the header writes a parameter of the library's source, without `alloc`, which the toolchain passes.
 IN_C = {
     "&[u8]": "const uint8_t *{0}, size_t {0}_length",
@@ -44,6 +46,24 @@ IN_C = {
     "u32": "uint32_t {0}",
 }
 RESULTS = {"u32": "uint32_t", "usize": "size_t"}
+# What the programs of the crate bench_calls print for words and a text: two tags, the second without a tag URI; two frames, and one.
+PROGRAMS = [
+    (
+        ["texts"],
+        "3074257BF7194E4000001A85\n3003A3529440000000000000\n",
+        "urn:epc:tag:sgtin-96:3.0614141.812345.6789\nurn:epc:raw:96.x3003A3529440000000000000\n",
+    ),
+    (
+        ["stream", "2", "3"],
+        "043D0000001B0000000100F000118D3074257BF7194E4000001A85083E0000000A00000002\n",
+        "2 items 2 times and 2 frames 3 times\n",
+    ),
+    (
+        ["tree", "2", "3"],
+        "043D0000001B0000000100F000118D3074257BF7194E4000001A85\n",
+        "27 octets decoded 2 times and encoded 3 times\n",
+    ),
+]
 
 
 def build(folder, source_file):
@@ -205,24 +225,25 @@ def run(program, *words, given=b""):
     return done.returncode, done.stdout.decode(), done.stderr.decode()
 
 
+def texts_and_lines():
+    """Returns the texts of the rows of `epc`, and the lines that are printed of each."""
+    return [(bytes.fromhex(it.words[0]).decode(), bytes.fromhex(digits_of(it.wanted[1])).decode().splitlines()) for it in rows_in("epc")]
+
+
 def tags():
-    """Returns the words with a tag URI of the tests' table, and those texts."""
-    return re.findall(r'"([0-9A-F]{24})",\s*"(urn:epc:tag:[^"]+)"', source("epc.rt"))
+    """Returns the words with a tag URI of the tests' rows, and those texts."""
+    rows = [(text, lines[0]) for text, lines in texts_and_lines() if lines[0].startswith("urn:epc:tag:")]
+    return [(digits, text) for digits, text in rows if digits == digits.upper()]
 
 
 def raw_words():
-    """Returns the words without a tag URI of the tests' table, with their raw URI, the part that fails and its bit."""
-    return re.findall(r'"([0-9A-F]{24})",\s*"(urn:epc:raw:[^"]+)",\s*"# (\w+) (\d+)"', source("epc.rt"))
+    """Returns the words without a tag URI of the tests' rows, with their raw URI, the part that fails and its bit."""
+    return [(digits, lines[0], *lines[1].split()[1:]) for digits, lines in texts_and_lines() if lines[0].startswith("urn:epc:raw:")]
 
 
 def refused_texts():
-    """Returns the texts that the tests' table has refused, and the rules."""
-    return re.findall(r'\(\s*"([^"]*)",\s*"! (\w+)",?\s*\)', source("epc.rt"))
-
-
-def counts_of_rows():
-    """Returns how many rows each table of the tests has, by its declaration."""
-    return {name: int(count) for name, count in re.findall(r"(?m)^static (\w+): \[[^;]*; (\d+)\]", source("epc.rt"))}
+    """Returns the texts that the tests' rows have refused, and the rules."""
+    return [(text, lines[0].removeprefix("! ")) for text, lines in texts_and_lines() if lines[0].startswith("! ")]
 
 
 def checks_of_header(llrp):
@@ -240,8 +261,9 @@ def checks_of_header(llrp):
 
 def checks_of_tags(llrp, program):
     """Yields whether each word and its text are each other's, by both examples."""
-    found = {"TAGS": len(tags()), "RAW": len(raw_words()), "REFUSED": len(refused_texts())}
-    yield "all rows are found", found == {name: counts_of_rows()[name] for name in found} and min(found.values()) > 0
+    # (a word and its text are a row each, and one word is there in lower case)
+    counts = 2 * len(tags()) + 2 * len(raw_words()) + len(refused_texts()) + 1
+    yield "all rows are found", counts == len(texts_and_lines()) and min(len(raw_words()), len(refused_texts())) > 0
     for digits, text in tags():
         word = bytes.fromhex(digits)
         yield f"text of {digits}", llrp.text_and_fault(word) == (text, None)
@@ -401,10 +423,18 @@ def checks_of_capture(llrp, program):
         yield f"capture and back by JSON, {first}", llrp.pack(llrp.messages(stream)[0]) == stream
 
 
+def checks_of_programs():
+    """Yields whether the example of docs/library.md, and the programs beside it, print what they should."""
+    for words, given, wanted in PROGRAMS:
+        found = run(program_given("bench_calls"), *words, given=given.encode())
+        yield f"bench_calls {words[0]}: {found}", found == (0, wanted, "")
+
+
 def checks_of_documents(folder):
     """Yields whether docs/library.md shows the code that the gate builds, and the C that it and README.md show compiles and runs."""
     shown = re.findall(r"(?s)```rust\n(.*?)```", text_of("docs/library.md"))
-    yield "the code of docs/library.md", shown == [text_of("crates/example_tag_texts/src/main.rt")]
+    yield "the code of docs/library.md", shown == [text_of("crates/bench_calls/src/texts.rt")]
+    yield from checks_of_programs()
     yield from checks_of_c(folder)
 
 

@@ -16,7 +16,7 @@ from parts.counting import finish_results, text_of
 from parts.repository import TOP
 
 # How many things are checked.
-LEAST = 57
+LEAST = 60
 TAG, WORD = "urn:epc:tag:sgtin-96:3.0614141.812345.6789", "3074257BF7194E4000001A85"
 # The newest version of the C library whose functions may be needed: that of `Depends`.
 GLIBC = (2, 34)
@@ -36,7 +36,7 @@ PACKAGES = {
     "llrp": ("utils", "libc6 (>= 2.34)", None),
     "libllrp-c0": ("libs", "libc6 (>= 2.34)", r"lib/libllrp_c\.so\.0"),
     "libllrp-c-dev": ("libdevel", "libllrp-c0 (= {version})", r"include/.*|lib/libllrp_c\.(a|so)|lib/pkgconfig/.*|share/man/man3/.*"),
-    "python3-llrp-epc": ("python", "libllrp-c0 (>= {version}), python3 (>= 3.8)", r"lib/python3/.*"),
+    "python3-llrp-epc": ("python", "libllrp-c0 (>= {version}), python3 (>= 3.8)", r"lib/python3/.*|bin/llrp-.*|share/man/man1/llrp-.*"),
 }
 MAINTAINER = "Jukyreva <packages@jukyreva.example>"
 COPYRIGHT = "llrp, by Jukyreva. Copyright 2026 Jukyreva. All rights reserved.\n"
@@ -62,7 +62,7 @@ def unzipped(path):
 
 def checks_of_control(name, package, root):
     """Yields whether a package says of itself what it has to say, and has no script that runs when it is installed."""
-    version = re.search(r'const VERSION: &str = "([^"]+)"', text_of("crates/llrp_commands/src/arguments/commands.rt"))[1]
+    version = re.search(r'const VERSION: &str = "([^"]+)"', text_of("crates/llrp_words/src/arguments/commands.rt"))[1]
     architecture = "all" if name.startswith("python3-") else output_of("dpkg", "--print-architecture")
     yield f"the name of {name}", os.path.basename(package) == f"{name}_{version}_{architecture}.deb"
     output_of("dpkg-deb", "-e", package, os.path.join(root, "DEBIAN"))
@@ -90,7 +90,7 @@ def checks_of_files(name, package, root):
     yield f"the files of {name}: {wrong}", files and not wrong
     listed = [line.split(maxsplit=5) for line in output_of("dpkg-deb", "-c", package).splitlines()]
     wanted = {"d": "drwxr-xr-x", "x": "-rwxr-xr-x", "l": "lrwxrwxrwx", "-": "-rw-r--r--"}
-    kinds = [("d" if it[-1].endswith("/") else "x" if it[-1] == "./usr/bin/llrp" else "l" if " -> " in it[-1] else "-") for it in listed]
+    kinds = [("d" if it[-1].endswith("/") else "x" if it[-1].startswith("./usr/bin/") else "l" if " -> " in it[-1] else "-") for it in listed]
     wrong = [(mode, it) for kind, (mode, _, _, _, _, it) in zip(kinds, listed) if mode != wanted[kind]]
     yield f"the modes of the files of {name}: {wrong}", not wrong
     yield f"the owners of the files of {name}", {owner for _, owner, *_ in listed} == {"root/root"}
@@ -149,7 +149,9 @@ def checks(packages, folder):
     yield "a C program is compiled and runs", WORD in output_of(program, TAG, **loaded).upper()
     module = f"from llrp_epc import Llrp; print(Llrp().text_of_word(bytes.fromhex('{WORD}')))"
     modules = f"{root}/usr/lib/python3/dist-packages"
-    yield "the package for Python is imported", output_of(sys.executable, "-c", module, PYTHONPATH=modules, **loaded) == TAG
+    yield "the package for Python finds the library below its prefix", output_of(sys.executable, "-c", module, PYTHONPATH=modules) == TAG
+    for command in sorted(it for it in os.listdir(f"{root}/usr/bin") if it != "llrp"):
+        yield f"{command} runs", f"usage: {command} " in output_of(f"{root}/usr/bin/{command}", "--help")
 
 
 def main():

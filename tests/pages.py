@@ -1,5 +1,5 @@
 #!/usr/bin/env python3
-"""Compares what pages say without a command with what it is taken from: the exchanges of docs/reader.md and docs/client.md, the answers of
+"""Compares what pages say without a command with what it is taken from: the exchanges of docs/reader.md and docs/client.md, the answers and statuses of
 docs/sim.md, the ROSpec of docs/client.md, the members of docs/json.md, the statuses of docs/reader.md, and the commands and flags that any
 page names.
 
@@ -14,6 +14,7 @@ import pathlib
 import re
 import shlex
 import socket
+import struct
 import subprocess
 import sys
 
@@ -23,7 +24,7 @@ from readers import OTHER, status
 from parts.repository import TOP, program_given
 from words import flags_of
 
-LEAST = 48
+LEAST = 82
 LONGEST = 20
 # What a client sends in docs/sim.md, and closes.
 REQUESTS = "0 GET_READER_CAPABILITIES 1 5 0\n0 GET_READER_CONFIG 1 6 0 0 0 0\n0 GET_SUPPORTED_VERSION 1 7\n0 CLOSE_CONNECTION 1 8\n"
@@ -44,6 +45,7 @@ def checks_of_exchanges():
     """Yields whether each frame of the exchanges is one that the tests have, whose octets were worked out from the standard."""
     folders = ("test_libraries/src", "test_ends/src", "llrp_session/src", "llrp_counterexamples/src")
     sources = [it for folder in folders for it in pathlib.Path(TOP, "crates", folder).glob("**/*.rt")]
+    sources += pathlib.Path(TOP, "tests", "rows").glob("*.rows")
     there = squeezed("".join(it.read_text(encoding="utf-8") for it in sources)) + LISTED
     for page in ("docs/reader.md", "docs/client.md"):
         for frame in re.findall(r"`((?:[0-9A-F]{2,} ?){8,}|[0-9A-F]{20,}(?: [0-9A-F]+)*)`", text_of(page)):
@@ -124,6 +126,43 @@ def checks_of_reader():
     yield "docs/reader.md: how many are held", set(re.findall(r"(?:If|at most) (\d+) (?:reports )?are held", page)) == {held}
 
 
+# What docs/sim.md says that a client meets, and what shows it: frames that begin a connection in the profile, and the status of the ERROR_MESSAGE
+# that answers each (LLRP 1.1, section 15: 100 M_ParameterError, 101 M_FieldError, 109 M_UnsupportedMessage, 110 M_UnsupportedVersion).
+MEETS = (
+    ("a message that the profile has and the reader does not serve", "043E0000000A00000007", 109),
+    ("a message of a kind that the profile leaves out", "04010000000B0000000700", 109),
+    ("a frame of another version than 1 and 2", "0C3E0000000A00000007", 110),
+    ("a frame with a field out of its range, a reserved bit", "843E0000000A00000007", 101),
+    ("any other frame that is not a message", "043E0000000B0000000700", 100),
+)
+
+
+def checks_of_statuses(program):
+    """Yields whether docs/sim.md has the status that LLRP has for each frame, and the reader answers with."""
+    rows = [[it.strip() for it in line.strip("|").split("|")] for line in text_of("docs/sim.md").split("| A client sends |")[1].split("\n\n")[0].split("\n")[2:]]
+    for begins, octets, wanted in MEETS:
+        told = [re.findall(r"status (\d+)", answer) for sent, answer in rows if sent.startswith(begins)]
+        yield f"docs/sim.md: {begins}: {told}", told == [[str(wanted)]]
+        with held_port() as port:
+            run = subprocess.Popen([program, "sim", str(port)], stdin=subprocess.DEVNULL, stderr=subprocess.DEVNULL)
+            wait_until(lambda: listens_at(port) or run.poll() is not None, LONGEST, "sim listens")
+            with socket.create_connection(("127.0.0.1", port), timeout=LONGEST) as peer:
+                peer.sendall(bytes.fromhex(octets))
+                peer.shutdown(socket.SHUT_WR)
+                said = b""
+                while piece := peer.recv(4096):
+                    said += piece
+            run.wait(LONGEST)
+        yield f"sim: {begins}", (said[32:34], said[46:48]) == (bytes.fromhex("0464"), struct.pack(">H", wanted))
+
+
+def checks_of_limits():
+    """Yields of each page whether it lists what may have longer frames with the whole standard: a file that `watch` saved."""
+    for page in (f"docs/{it}" for it in sorted(os.listdir(os.path.join(TOP, "docs"))) if it.endswith(".md")):
+        wrong = [it for it in re.findall(r"llrp show[^|;`\n]*--limit 1048576[^|;`\n]*", text_of(page)) if "--all" not in it]
+        yield f"{page}: {wrong}", not wrong
+
+
 def code_of(page):
     """Returns the commands of a page: its code between words, and its indented lines."""
     text = text_of(page).replace("\\\n", " ")
@@ -153,6 +192,7 @@ def checks_of_commands(program):
 def main():
     program = program_given()
     results = [*checks_of_exchanges(), *checks_of_blocks(program), *checks_of_json(program), *checks_of_reader(), *checks_of_commands(program)]
+    results += [*checks_of_statuses(program), *checks_of_limits()]
     return finish_results(results, LEAST)
 
 

@@ -22,10 +22,10 @@ import time
 from parts.counting import finish_results, text_of
 from parts.repository import TOP, program_given
 
-LEAST = 153
+LEAST = 185
 # What stubs of the toolchain do: each notes where and with which words it is called; then it proves and links, or fails in one of these.
 CALLED = 'echo "${PWD##*/} $*" >>"$(dirname "$0")/calls"\n'
-LINKS = 'mkdir -p out; printf "#!/bin/sh\\necho built \\$*; exit 5" >out/llrp; chmod +x out/llrp'
+LINKS = 'mkdir -p out; printf "#!/bin/sh\\necho built \\$*; exit 5" >out/${PWD##*/}; chmod +x out/${PWD##*/}'
 PROVES = 'echo "crate ${{PWD##*/}}: modules loaded=1 checked=1"; echo "logic=proved"; touch edited.rt; if [ "$1" = run ]; then {}; fi'
 REFUSES = 'echo "src/lib.rt:1:1: error: no proof"; echo "crate ${PWD##*/}: modules loaded=1 checked=1"; echo "logic=not-proved"; exit 1'
 FAILURES = {
@@ -42,25 +42,34 @@ ARCHIVES = {"given.a": "int heap(void); int llrp_given(void) { return heap() + 1
 ODD = "a 'b\" $c "
 # How long a script may take until it is where it is interrupted, in seconds.
 LONGEST = 60
-# Where install.sh puts each file, with those of the package for Python.
+# The package for Python: where install.sh puts it, its files and its commands.
 PACKAGE = "lib/python3/dist-packages/llrp_epc"
+MODULES = (
+    "__init__.py _bench.py _checks_access.py _checks_connections.py _checks_readers.py _checks_rospecs.py _definitions.py _library.py _llrp.py"
+    " _messages.py _standard.py _texts.py _typed.py client.py conform.py conform_pytest.py enumerations.tsv impinj.tsv ltkxml.py makers.py py.typed"
+    " standard.tsv test_conform.py"
+)
+COMMANDS = ("llrp-conform", "llrp-makers", "llrp-xml")
+# Where install.sh puts each file.
 INSTALLED = {
     "bin/llrp": "crates/llrp/out/llrp",
     "lib/libllrp_c.a": "out/libllrp_c.a",
     "lib/libllrp_c.so": "out/libllrp_c.so.0",
     "lib/libllrp_c.so.0": "out/libllrp_c.so.0",
-    **{f"{PACKAGE}/{it}": f"python/llrp_epc/{it}" for it in ("__init__.py", "_library.py", "_llrp.py", "py.typed")},
+    **{f"{PACKAGE}/{it}": f"python/llrp_epc/{it}" for it in MODULES.split()},
+    **{f"bin/{it}": f"python/bin/{it}" for it in COMMANDS},
+    **{f"share/man/man1/{it}.1": f"docs/{it}.1" for it in COMMANDS},
     "include/llrp.h": "include/llrp.h",
     "share/man/man1/llrp.1": "docs/llrp.1",
     "share/man/man3/llrp.3": "docs/llrp.3",
-    **{f"share/doc/llrp/{it}.md": f"docs/{it}.md" for it in ("client", "errors", "json", "recipes", "sim", "tables")},
+    **{f"share/doc/llrp/{it}.md": f"docs/{it}.md" for it in ("client", "conform", "errors", "json", "makers", "recipes", "sim", "tables", "xml")},
     "share/bash-completion/completions/llrp": "completions/llrp.bash",
     "share/zsh/site-functions/_llrp": "completions/_llrp",
     "share/fish/vendor_completions.d/llrp.fish": "completions/llrp.fish",
 }
 EXAMPLES = (
-    "c/tags.c inventory.pcap inventory.script keepalive.hex python/async_client.py python/client.py report.hex report.txt requests.txt rospec.txt"
-    " seen.awk shift.txt sightings.script tid.access two_antennas.rospec"
+    "add_rospec.xml c/tags.c inventory.pcap inventory.script keepalive.hex makers.script python/async_client.py python/client.py report.hex"
+    " report.txt requests.txt rospec.txt seen.awk shift.txt sightings.script tid.access two_antennas.rospec"
 )
 INSTALLED |= {f"share/doc/llrp/examples/{it}": f"examples/{it}" for it in EXAMPLES.split()}
 # What install.sh writes itself: what pkg-config says, and the unit with the program's path.
@@ -117,7 +126,7 @@ def run(*words, cwd=TOP, **environment):
 
 def version():
     """Returns the version of the sources."""
-    return re.search(r'const VERSION: &str = "([^"]+)"', text_of("crates/llrp_commands/src/arguments/commands.rt"))[1]
+    return re.search(r'const VERSION: &str = "([^"]+)"', text_of("crates/llrp_words/src/arguments/commands.rt"))[1]
 
 
 def octets_of(path):
@@ -193,8 +202,8 @@ def checks_of_failures(folder):
     missing = without_toolchain(folder)
     paths = {what: (Toolchain(folder, body).path, told) for what, (body, told) in FAILURES.items()}
     for what, (path, told) in {**paths, "no toolchain": (missing, "rt: not found")}.items():
-        for name, status in (("./build.py", 1), ("./llrp", 125)):
-            found, out, err = run(name, cwd=copy_of_sources(folder, f"{what} {name[2:]}"), PATH=path)
+        for name, status, *words in (("./build.py", 1), ("./llrp", 125, "loop")):
+            found, out, err = run(name, *words, cwd=copy_of_sources(folder, f"{what} {name[2:]}"), PATH=path)
             yield f"{name}, {what}", (found, out) == (status, "") and told in err
 
 
@@ -224,7 +233,7 @@ def interrupted(name, copy, waits, number, to_all, times):
             os.killpg(process.pid, signal.SIGKILL)
             return None
         time.sleep(0.02)
-    # (both rows of crates have begun by then)
+    # (several crates have begun by then)
     time.sleep(0.3)
     for _ in range(times):
         (os.killpg if to_all else os.kill)(process.pid, number)
@@ -251,10 +260,10 @@ def checks_of_build(folder):
     crates = crates_of("llrp")
     found, out, err = run("./build.py", cwd=copy, PATH=proves.path)
     yield "./build.py, proved", (found, out) == (0, "") and f" of {len(crates)}: tag_bits" in err
-    calls = re.fullmatch(f"(\\w+ lib --jobs [1-3]\n){{{len(crates) - 1}}}llrp run --jobs [1-4] -- --help", "\n".join(proves.calls()))
+    calls = re.fullmatch(f"(\\w+ lib --jobs [1-4]\n){{{len(crates) - 1}}}llrp run --jobs [1-4] -- --help", "\n".join(proves.calls()))
     yield "what ./build.py calls", calls is not None
     yield "which crates ./build.py proves", {it.split()[0] for it in proves.calls()} == crates
-    yield "other words of ./build.py", run("./build.py", "program", cwd=copy, PATH=refuses.path) == (2, "", "usage: build.py [library]\n")
+    yield "other words of ./build.py", run("./build.py", "program", cwd=copy, PATH=refuses.path) == (2, "", "usage: build.py [library | offline]\n")
     yield "./llrp runs what is built", run("./llrp", "x", cwd=copy, PATH=refuses.path) == (5, "built x\n", "")
     later(os.path.join(copy, "crates/llrp/out/later.antt"))
     yield "./llrp looks at sources alone", run("./llrp", "x", cwd=copy, PATH=refuses.path) == (5, "built x\n", "")
@@ -262,6 +271,10 @@ def checks_of_build(folder):
         later(os.path.join(copy, name))
         yield f"./llrp builds anew after a change of {name}", run("./llrp", cwd=copy, PATH=refuses.path)[0] == 125
         os.utime(os.path.join(copy, name), (1e9, 1e9))
+    copy, proves = copy_of_sources(folder, "offline"), Toolchain(folder, PROVES.format(LINKS))
+    yield "./llrp builds what needs no socket", run("./llrp", "show", cwd=copy, PATH=proves.path)[:2] == (5, "built show\n")
+    yield "which crates that takes", {it.split()[0] for it in proves.calls()} == crates_of("llrp_offline")
+    yield "./llrp builds the whole for a socket", run("./llrp", "loop", cwd=copy, PATH=refuses.path)[0] == 125
     copy = copy_of_sources(folder, "edited")
     yield "./llrp builds and runs", run("./llrp", "x", cwd=copy, PATH=proves.path)[:2] == (5, "built x\n")
     yield "./llrp builds anew after a change during the build", run("./llrp", cwd=copy, PATH=refuses.path)[0] == 125
@@ -337,7 +350,7 @@ def checks_of_library(folder):
     found, out, err = run("./library.sh", cwd=copy, PATH=gives.path)
     crates = crates_of("llrp_c")
     yield "./library.sh", (found, out) == (0, "") and err.startswith(f"llrp: proving {len(crates)} crates, and building the library for C\n")
-    calls = re.fullmatch(f"(\\w+ lib --jobs [1-3]\n){{{len(crates) - 1}}}llrp_c lib --jobs [1-4]\n\\w+ doc", "\n".join(gives.calls()))
+    calls = re.fullmatch(f"(\\w+ lib --jobs [1-4]\n){{{len(crates) - 1}}}llrp_c lib --jobs [1-4]\n\\w+ doc", "\n".join(gives.calls()))
     yield "what ./library.sh calls", calls is not None
     library = ctypes.CDLL(os.path.join(copy, "out/libllrp_c.so.0"))
     yield "the library that is loaded", library.llrp_given() == 46
@@ -372,7 +385,7 @@ def below(folder):
 
 def wanted_mode(path, name):
     """Returns the mode that an installed file or folder has to have."""
-    return 0o755 if os.path.isdir(path) or name == "bin/llrp" else 0o644
+    return 0o755 if os.path.isdir(path) or name.startswith("bin/") else 0o644
 
 
 def checks_of_install(folder):
@@ -429,7 +442,7 @@ def checks_of_figures(folder):
 
 def checks_of_benchmarks(folder):
     """Yields whether each benchmark ends well, with the lines that it should print and figures in each, and leaves no file."""
-    scripts = sorted(name for name in os.listdir(os.path.join(TOP, "bench")) if name not in ("common.sh", "watch.py"))
+    scripts = sorted(name for name in os.listdir(os.path.join(TOP, "bench")) if name not in ("common.sh", "rows.tsv", "watch.py"))
     yield "all benchmarks", scripts == sorted(name for name, *_ in BENCHMARKS)
     status, out, err = run("python3", "bench/watch.py", "crates/llrp/out/llrp", "2", "10", "2", cwd=TOP)
     yield f"bench/watch.py: {out!r} {err!r}", status == 0 and out != ""

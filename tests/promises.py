@@ -13,7 +13,7 @@ from parts.counting import finish_results, text_of
 from parts.definitions import Tree
 from parts.repository import TOP
 
-LEAST = 179
+LEAST = 540
 NAME = r"`((?:\w+::)*[\w]+)`"
 
 

@@ -1,7 +1,7 @@
 #!/usr/bin/env python3
 """Runs `inventory` with its options against a small reader over a socket, which has habits of real ones: it reports late, reports nothing at
 first, has a ROSpec from before, and starts an immediate ROSpec as soon as it is enabled. A file of `--rospec` that is refused is named before a
-connection is made.
+connection is made. `loop` runs against the simulated reader, by a script.
 
 usage: tests/readers.py [PROGRAM]
 
@@ -25,7 +25,7 @@ from parts.counting import finish
 from parts.repository import program_given
 
 # How many runs there are.
-LEAST = 701
+LEAST = 734
 # How long a run may take, and how late a late reader reports, in seconds.
 LONGEST, LATE = 20, 0.05
 # How many runs at a time.
@@ -271,6 +271,23 @@ ROWS = [
     Row("--all --rospec powers", Habits(), 0, "= 0\ntotal 0 1\n", "", "ADD ENABLE START GET_REPORT DISABLE DELETE CLOSE", "powers"),
     Row("--rospec immediate", Habits(has=(OWN["powers"],)), 1, "", "llrp: status 101\n", "ADD", "immediate"),
 ]
+def plan_rows():
+    """Yields a row for each of two reports that are awaited or none, three GET_REPORTs that are asked for or none, a ROSpec of a file or the
+    standard one, and all other options of a plan or none."""
+    for reports, polls, awaited, asked in ((None, None, 0, 1), (None, 3, 0, 3), (2, None, 2, 0), (2, 3, 2, 3)):
+        for file in ("", "powers"):
+            for options in ("", "--check --clean --json --all"):
+                words = [f"--rospec {file}"] * bool(file) + [f"--reports {reports}"] * bool(reports) + [f"--polls {polls}"] * bool(polls)
+                tag, end, total = (TAG_OBJECT, '{{"report":{}}}\n', '{{"tags":{},"reports":{}}}\n') if options else (TAG_LINE, "= {}\n", "total {} {}\n")
+                lines = awaited * (tag + end.format(1)) + asked * end.format(0) + total.format(awaited, awaited + asked)
+                came = ["DELETE"] * bool(options) + ["ADD", "ENABLE", "START"] + ["GET_REPORT"] * asked + ["DISABLE" if file else "STOP"]
+                came += ["GET_ROSPECS"] * bool(options) + ["DELETE", "CLOSE"]
+                yield Row(" ".join([*words, options]), Habits(tagged=awaited), 0, lines, "", " ".join(came), file or min(awaited, 1))
+
+
+ROWS += plan_rows()
+# After how many tags a reader reports.
+ROWS += [Row(f"--every {it}", Habits(), 0, "= 0\ntotal 0 1\n", "", STANDARD, it) for it in (0, 1, 5)]
 # Words that are refused before a connection is made, and how the line that says so begins.
 REFUSED = [
     ("--reports 0", "error: "),
@@ -282,7 +299,6 @@ REFUSED = [
     ("--rospec missing --every 1", "error: the argument '--rospec <FILE>' cannot be used with '--every <N>'"),
     ("--rospec", "error: "),
 ]
-
 
 
 class Exchange(NamedTuple):
@@ -320,6 +336,26 @@ EXCHANGES = [
         [TAG_LINE + "= 1\n", "= 0\n", TAG_LINE + "= 1\n", "= 0\n", "total 2 4\n"],
         [3, 5, 6, 7, 11],
     ),
+]
+
+
+# What the client sends without options, frame after frame, and what comes before each of these: ADD_ROSPEC, ENABLE_ROSPEC, START_ROSPEC,
+# GET_REPORT, STOP_ROSPEC, DELETE_ROSPEC and CLOSE_CONNECTION. The last response ends the plan.
+SENT = [
+    "04140000004B00000001" + STANDARD_ROSPEC.replace("00ED000D020001", "00ED000D020000").replace("00B10041000000010001", "00B10041000000010000"),
+    "04180000000E0000000200000001", "04160000000E0000000300000001", "043C0000000A00000004", "04170000000E0000000500000001",
+    "04150000000E0000000600000001", "040E0000000A00000007",
+]
+COMES = [ACCEPTS, response(30, 1), response(34, 2), response(32, 3), TAGGED, response(33, 5), response(31, 6), response(4, 7)]
+# Scripts of `loop`: its words, the script, the status, and what is written to standard output and standard error.
+SIGHTINGS = "".join(f"3 {at}000 seen {tag}\n" for at, tag in enumerate((
+    "1 -60 urn:epc:tag:sgtin-96:3.0614141.812345.6789", "1 -61 urn:epc:tag:sscc-96:0.0614141.0000000001", "2 -62 urn:epc:tag:gid-96:1.2.3"), 1))
+SEEN = (
+    TAG_LINE + "urn:epc:tag:sscc-96:0.0614141.0000000001 1 -61\n= 2\nurn:epc:tag:gid-96:1.2.3 2 -62\n= 1\ntotal 3 2\n"
+)
+LOOPS = [
+    ("--every 2", SIGHTINGS, 0, SEEN, ""), ("--every 2 --check", SIGHTINGS, 0, SEEN, ""), ("", "", 0, "= 0\ntotal 0 1\n", ""),
+    ("", "0 5 tick\n", 0, "= 0\ntotal 0 1\n", ""), ("", "0 5 tick\n0 4 tick\n", 1, "", "llrp: script line 2\n"),
 ]
 
 
@@ -395,6 +431,33 @@ def is_cut_well(program, exchange, count):
     return (run.returncode, err.decode(), out.decode()) == (*ends, "".join(lines))
 
 
+def read_to_end(peer):
+    read = b""
+    while more := peer.recv(4096):
+        read += more
+    return read
+
+
+def is_sent_well(program, count):
+    """Whether the client of a reader that sends so many frames and closes its side sends the octets of so many frames, and prints what came."""
+    with socket.create_server(("127.0.0.1", 0)) as listener:
+        run = start(program, "", listener.getsockname()[1])
+        with accept(listener) as peer:
+            peer.sendall(octets(COMES[:count]))
+            peer.shutdown(socket.SHUT_WR)
+            sent = read_to_end(peer)
+        out, err = run.communicate(timeout=LONGEST)
+    ends, error, total = (0, "", "total 1 1\n") if count == len(COMES) else (1, "llrp: early\n", "")
+    lines = (TAG_LINE + "= 1\n") * (COMES.index(TAGGED) < count) + total
+    return (run.returncode, err.decode(), out.decode(), sent) == (ends, error, lines, octets(SENT[:count]))
+
+
+def is_looped_well(program, words, script, ends, lines, error):
+    """Whether `loop` ends so by a script."""
+    done = subprocess.run([program, "loop", *words.split()], input=script, capture_output=True, text=True, timeout=LONGEST, check=False)
+    return (done.returncode, done.stdout, done.stderr) == (ends, lines, error)
+
+
 def main():
     program = program_given()
     write_files()
@@ -406,6 +469,8 @@ def main():
     cases = [(f"{row.words or 'no options'}: {row.habits}", is_right, (row,)) for row in ROWS]
     cases += [(f"the words {it[0]}", is_refused, it) for it in refused]
     cases += [(f"{it.words}, cut after {count} octets", is_cut_well, (it, count)) for it in EXCHANGES for count in range(len(octets(it.down)) + 1)]
+    cases += [(f"what is sent after {count} frames", is_sent_well, (count,)) for count in range(len(COMES) + 1)]
+    cases += [(f"loop {it[0]} with the script {it[1]!r}", is_looped_well, it) for it in LOOPS]
     passed = failed = 0
     with concurrent.futures.ThreadPoolExecutor(AT_ONCE) as pool:
         for (name, _, _), right in zip(cases, pool.map(lambda case: case[1](program, *case[2]), cases)):

@@ -358,14 +358,18 @@ def client_with(client, refuses, by_error):
         return done.returncode, done.stderr.split(":")[0], came
 
 
-def client_is_refused(client):
-    """Returns whether a client sends its requests in order, and ends at the first one that is refused, in either way."""
+def client_is_refused(client, leaves):
+    """Returns whether a client sends its requests in order, and ends at the first one that is refused, in either way; one that leaves deletes the
+    ROSpec that it added and closes the connection then."""
     requests = {20: "ADD", 24: "ENABLE", 22: "START", 21: "DELETE"}
     if client_with(client, None, False) != (0, "", [*requests.values(), "CLOSE"]):
         return False
     for number, (kind, name) in enumerate(requests.items(), 1):
         for by_error in (False, True):
-            wanted = (1, f"{name}_ROSPEC was refused", list(requests.values())[:number])
+            sent = list(requests.values())[:number]
+            if leaves:
+                sent += [*(["DELETE"] if 1 < number < len(requests) else []), "CLOSE"]
+            wanted = (1, f"{name}_ROSPEC was refused", sent)
             if client_with(client, kind, by_error) != wanted:
                 return False
     return True
@@ -385,9 +389,9 @@ def main():
         "the filter before the broker": filters_at_once(),
         "examples/seen.awk": tags_are_rows(),
         "examples/python/client.py": client_works(program, run_client),
-        "examples/python/client.py, refused": client_is_refused(run_client),
+        "examples/python/client.py, refused": client_is_refused(run_client, True),
         "examples/python/async_client.py": client_works(program, run_async_client),
-        "examples/python/async_client.py, refused": client_is_refused(run_async_client),
+        "examples/python/async_client.py, refused": client_is_refused(run_async_client, False),
     }
     wrong += [what for what, is_right in others.items() if not is_right]
     for it in wrong:

@@ -3,68 +3,59 @@
 
 usage: tests/refuse_each.py [PROGRAM]
 
-PROGRAM is that of the crate `test_refused_memory`, in its folder out/, where none is given. Every such run has to answer what
+PROGRAM is that of the crate `test_calls`, in its folder out/, where none is given. Every such run has to answer what
 the call answers with enough memory, or Memory with what the call promises to leave then; and some run of each call that takes
 memory has to answer Memory. The last line is `N passed, M failed`; the status is 1 if something failed.
 """
 import collections
-import os
-import re
 import sys
 import tempfile
 
 from parts.counting import finish
 from parts.exchanges import client_rows, reader_rows
 from parts.refusing import build_library, each_refused, run
-from parts.repository import TESTS, program_given
-from parts.vectors import all_found, vectors
+from parts.repository import program_given
+from parts.rows import Row, given_to, rows_in
+from parts.vectors import vectors
 
 # Calls that write: after Memory a front of what they write with enough memory was written.
-WRITING = ("show", "list", "serve", "serve-all", "inventory", "epc")
+WRITING = ("show", "list", "serve", "inventory", "epc", "ask", "among", "segments")
 # The other calls: each has to have rows.
-OTHERS = ("decode", "feed", "encode", "clone", "clone-node", "step", "client", "script", "plan", "rospec", "digits")
+OTHERS = ("decode", "feed", "encode", "clone", "clone-node", "reader", "client", "script", "plan", "rospec", "digits", "explain")
 # Calls that take no memory.
 WITHOUT_MEMORY = ("write", "skip")
 # Machines over bytes: they answer their error again, and append nothing then.
 ENDS = ("serving", "gathering")
-# How many rows there are: of the vectors, the exchanges and tests/ends.rows. Each has two runs or more.
-ROWS = 945
+# The files below tests/rows/ whose rows count here, beside the vectors and the exchanges.
+FILES = ("refused", "talks", "explained")
+# How many rows there are. Each has two runs or more.
+ROWS = 1080
 # How many runs of them there are.
 LEAST = 7000
 
 
 def frame_rows():
-    """Returns the rows of the calls on frames, streams and listings, of the conformance vectors."""
-    rows = []
+    """Yields the rows of the calls on frames, streams and listings, of the conformance vectors."""
     for it in vectors():
-        digits = it.stream.hex().upper()
-        if it.stream:
-            rows += [(it.name, call, [digits]) for call in ("feed", "show")]
+        calls = [(call, it.stream) for call in ("feed", "show") if it.stream]
         if it.frames:
-            first = it.frames[0].hex().upper()
-            rows.append((it.name, "decode", [first]))
+            calls.append(("decode", it.frames[0]))
             if it.is_lawful:
-                rows += [(it.name, call, [first]) for call in ("encode", "write", "clone")]
+                calls += [(call, it.frames[0]) for call in ("encode", "write", "clone")]
                 if "\n1 " in it.listing:
-                    rows.append((it.name, "clone-node", [first]))
+                    calls.append(("clone-node", it.frames[0]))
         if it.is_lawful and it.listing:
-            rows.append((it.name, "list", it.listing.splitlines()))
+            calls.append(("list", it.listing.encode()))
+        for call, octets in calls:
+            yield Row(it.name, call, [octets.hex()], [], False)
     # A report of 65,536 octets whose first parameter is of no known type: its head decides the fault.
-    rows.append(("a parameter of no known type", "skip", ["043D000100000000000100BB0004", "65522"]))
-    return rows
-
-
-def end_rows():
-    """Returns the rows of the two ends of a connection and of texts: a name, a call and its words, split by tabs."""
-    with open(os.path.join(TESTS, "ends.rows"), encoding="utf-8") as file:
-        count, *lines = [line.rstrip("\n").split("\t") for line in file if line.strip()]
-    there = int(re.fullmatch(r"# (\d+) rows: name, call and words, split by tabs", count[0])[1])
-    return [(name, call, words) for name, call, *words in all_found("rows of tests/ends.rows", lines, there)]
+    yield Row("a parameter of no known type", "skip", ["043D000100000000000100BB0004", "65522"], [], False)
 
 
 def all_rows():
     """Returns all rows; ends the script where there are fewer than there have to be."""
-    rows = frame_rows() + reader_rows() + client_rows() + end_rows()
+    known = {*WRITING, *OTHERS, *WITHOUT_MEMORY, *ENDS}
+    rows = [*frame_rows(), *reader_rows(), *client_rows(), *(row for name in FILES for row in rows_in(name) if row.call in known)]
     if len(rows) < ROWS:
         sys.exit(f"WRONG: {len(rows)} rows in place of {ROWS} or more")
     return rows
@@ -120,20 +111,21 @@ def fault(call, ample, ended):
         found = lines["answer"].strip().removesuffix("Memory").rstrip()
         is_right = ample["answer"].startswith(found) and after == "held 0 Dead Some(Dead)"
     else:
-        is_right = after in ("same", "sent 0") and lines.get("again") == ample["answer"]
+        is_right = after in ("same", "sent 0") and (lines.get("again"), lines.get("wrote")) == (ample["answer"], ample.get("wrote"))
     return None if is_right else f"answers {lines}, and {ample} with enough memory"
 
 
-def run_row(library, program, call, words):
+def run_row(library, program, row):
     """Runs a row. Returns the ample run, how many runs answered Memory, the ample answer or otherwise, and what was wrong."""
-    ample_run = run(library, program, [call, *words], "0")
+    call, given = row.call, given_to(row)
+    ample_run = run(library, program, [], "0", given)
     ample = lines_of(ample_run)
     seen, wrong = collections.Counter(), []
     if ample_run.status != 0 or is_memory(call, ample):
         wrong.append(f"with enough memory: status {ample_run.status}, {ample_run.err[-200:]!r}")
     if call in WITHOUT_MEMORY and ample_run.requests != 0:
         wrong.append(f"asks for memory {ample_run.requests} times")
-    for which, ended in each_refused(library, program, [call, *words]):
+    for which, ended in each_refused(library, program, [], given):
         found = fault(call, ample, ended)
         seen["failed" if found else "memory" if is_memory(call, lines_of(ended)) else "same"] += 1
         if found:
@@ -142,18 +134,18 @@ def run_row(library, program, call, words):
 
 
 def main():
-    program = program_given("test_refused_memory")
+    program = program_given("test_calls")
     calls, total = {}, collections.Counter()
     with tempfile.TemporaryDirectory() as folder:
         library = build_library(folder)
-        for name, call, words in all_rows():
-            ample, seen, wrong = run_row(library, program, call, words)
-            count = calls.setdefault(call, collections.Counter())
+        for row in all_rows():
+            ample, seen, wrong = run_row(library, program, row)
+            count = calls.setdefault(row.call, collections.Counter())
             count.update(seen, rows=1, requests=ample.requests or 0)
             total["failed"] += max(seen["failed"], bool(wrong))
             total["passed"] += seen["memory"] + seen["same"]
             for it in wrong:
-                print(f"WRONG: {name}, {call}, {it[:400]}")
+                print(f"WRONG: {row.name}, {row.call}, {it[:400]}")
     for call in sorted({*WRITING, *WITHOUT_MEMORY, *ENDS, *OTHERS} - set(calls)):
         total["failed"] += 1
         print(f"WRONG: {call}: no row calls it")

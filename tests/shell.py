@@ -13,7 +13,7 @@ from parts.counting import finish_results
 from parts.repository import TOP
 
 # How many scripts there are.
-LEAST = 13
+LEAST = 16
 # What is sourced, and so has no line that says which shell runs it.
 SOURCED = ("bench/common.sh", "completions/llrp.bash")
 

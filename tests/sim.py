@@ -22,7 +22,7 @@ from parts.ports import held_port, listens_at, wait_until
 from parts.repository import TOP, program_given
 
 # How many comparisons there are.
-LEAST = 150
+LEAST = 156
 # How long a run may take, in seconds.
 LONGEST = 60
 
@@ -37,7 +37,7 @@ FRONT = bytes.fromhex("043E0000000A00")
 BROKEN = bytes.fromhex("043E0000000900000001")
 
 # Types of messages (LLRP 1.1, section 17.1).
-SET_READER_CONFIG, CLOSE_CONNECTION, ADD_ROSPEC, START_ROSPEC, ENABLE_ROSPEC, GET_SUPPORTED_VERSION = 3, 14, 20, 22, 24, 46
+SET_READER_CONFIG, CLOSE_CONNECTION, ADD_ROSPEC, START_ROSPEC, ENABLE_ROSPEC, GET_ROSPECS, GET_SUPPORTED_VERSION = 3, 14, 20, 22, 24, 26, 46
 SET_READER_CONFIG_RESPONSE, ADD_ROSPEC_RESPONSE, START_ROSPEC_RESPONSE, ENABLE_ROSPEC_RESPONSE = 13, 30, 32, 34
 CLOSE_CONNECTION_RESPONSE, GET_SUPPORTED_VERSION_RESPONSE, RO_ACCESS_REPORT, KEEPALIVE, EVENT = 4, 56, 61, 62, 63
 # By how much something may come late, in seconds, or early after what the client heard late: the machine's other work holds both up.
@@ -128,6 +128,24 @@ def one_after_another():
                 second.settimeout(LONGEST)
                 yield "until the first has ended", second.recv(len(ACCEPTED), socket.MSG_WAITALL) == ACCEPTED
         yield "both ended well", ended(run) == (0, "")
+
+
+# Of version 2: ADD_ROSPEC with a ROSpec of all antennas, and its response (LLRP 1.1, sections 11 and 17.1).
+ADD_TWO = bytes.fromhex(
+    "08140000003E00000002 00B10034000000010000 00B20012 00B3000500 00B600090000000000 00B7001800010000 00B800090000000000 00BA0007000101"
+)
+ADDED_TWO = bytes.fromhex("081E0000001200000002 011F000800000000")
+
+
+def requests_of_version_two():
+    """A reader of the profile takes requests of version 2 too; a request that is cut is an end that comes early."""
+    for sent, said, end in (
+        (ADD_TWO, ACCEPTED + ADDED_TWO, (0, "")), (ADD_TWO[:61], ACCEPTED, (1, "llrp: early\n")), (ADD_TWO[:9], ACCEPTED, (1, "llrp: early\n")),
+        (bytes.fromhex("083E00000009"), ACCEPTED, (1, "llrp: broken\n")),
+    ):
+        with held_port() as port, simulated(str(port), "--ready") as run:
+            run.stderr.readline()
+            yield f"{len(sent)} octets of version 2", talk(port, sent) == said and ended(run) == end
 
 
 def whole_scripts():
@@ -442,6 +460,17 @@ def agrees_on_versions(port, label):
             yield f"{label}: message {sent[9]}", client.frame(LONGEST) == wanted
 
 
+def asks_for_versions(label, *words):
+    """A client that asks for versions, or asks in one that was not agreed on, and closes its side at once, is answered all the same."""
+    for sent, wanted in (
+        (second(message(GET_SUPPORTED_VERSION, 7)), second(message(GET_SUPPORTED_VERSION_RESPONSE, 7, b"\1\2" + status(0)))),
+        (second(message(GET_ROSPECS, 8)), message(ERROR_MESSAGE, 8, status(110))),
+    ):
+        with held_port() as port, simulated(str(port), "--ready", *words) as run:
+            run.stderr.readline()
+            yield f"{label}: message {sent[9]}, and its end", talk(port, sent) == ACCEPTED + wanted and ended(run) == (0, "")
+
+
 def versions():
     """Versions by a clock."""
     with living() as (port, _):
@@ -467,6 +496,7 @@ def code_of(frame):
 
 def general_clients():
     """With --all and without a clock general clients are served as by a clock, but time stands still."""
+    yield from asks_for_versions("--all", "--all")
     with general("--clients", "2") as (port, run):
         yield from agrees_on_versions(port, "--all")
         with Client(port) as client:
@@ -581,7 +611,7 @@ def examples():
     yield "examples/python/test_client.py", done.returncode == 0 and "2 passed" in done.stdout
 
 
-PLAIN = (ready, one_after_another, whole_scripts, addresses, refusals, general_clients, second_general_clients, examples)
+PLAIN = (ready, one_after_another, requests_of_version_two, whole_scripts, addresses, refusals, general_clients, second_general_clients, examples)
 BY_CLOCK = (time_passes, lines_with_moments, clients_that_misbehave, second_clients, readers_that_misbehave, versions, answered, refused_clocks)
 
 

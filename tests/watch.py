@@ -8,9 +8,11 @@ usage: tests/watch.py [PROGRAM]
 PROGRAM is llrp, crates/llrp/out/llrp where none is given. The reader is written from LLRP 1.1 only. The last line is `N passed, M failed`;
 the status is 1 if something failed.
 """
+import concurrent.futures
 import datetime
 import json
 import os
+import random
 import re
 import socket
 import struct
@@ -25,9 +27,10 @@ from parts.ports import free_port
 from parts.repository import TOP, program_given
 
 # How many comparisons there are.
-LEAST = 246
-# How long a run may take, in seconds.
+LEAST = 355
+# How long a run may take, in seconds, and how many parts run at a time.
 LONGEST = 20
+PARTS_AT_ONCE = 8
 
 ACCEPTED = bytes.fromhex("043F000000200000000100F600160080000C0000000000000000010000060000")
 REFUSED = ACCEPTED[:-1] + b"\x01"
@@ -51,6 +54,9 @@ GIAI = bytes.fromhex("3474257BF40000000000162E")
 GIAI_TEXT, GIAI_KEY = "urn:epc:tag:giai-96:3.0614141.5678", "06141415678"
 RAW_TEXT = "urn:epc:raw:96.x3474257BF40000000000162E"
 GTIN = "80614141123458"
+NO_POWER = "invalid value for '--power <DBM>': expected a number from -327.68 to 327.67 with at most two decimals"
+NO_ANTENNAS = "invalid value for '--antennas <LIST>': expected numbers from 1 to 65535 with commas between them"
+NO_ADDRESS = "invalid value for '<HOST>': expected HOST, HOST:PORT, [IPV6] or [IPV6]:PORT"
 LABEL_CLASH = "--keys goes with lines of JSON, --schemes takes all, and neither goes with '--messages'"
 # How many reports the reader sends in one write.
 AT_ONCE = 1000
@@ -60,10 +66,14 @@ MOST_GROWTH = 64
 
 # How far the clock of this script may be from that of the program, in seconds.
 CLOCK = 0.1
+# How long a reader that sends pieces waits after each, in seconds.
+PIECE_PAUSE = 0.002
+# LLRP's own port, as the registry of IANA has it.
+LLRP_PORT = 5084
 
 # message types of LLRP 1.1, section 17.1
 (CLOSE, ADD, DELETE, START, STOP, ENABLE, DISABLE, SET_CONFIG, CAPABILITIES) = (14, 20, 21, 22, 23, 24, 25, 3, 1)
-(REPORT, KEEPALIVE, KEEPALIVE_ACK) = (61, 62, 72)
+(REPORT, KEEPALIVE, EVENT, KEEPALIVE_ACK) = (61, 62, 63, 72)
 (ADD_ACCESS, DELETE_ACCESS, ENABLE_ACCESS, DISABLE_ACCESS) = (40, 41, 42, 43)
 RESPONSES = {CLOSE: 4, ADD: 30, DELETE: 31, START: 32, STOP: 33, ENABLE: 34, DISABLE: 35, SET_CONFIG: 13, CAPABILITIES: 11}
 RESPONSES |= {ADD_ACCESS: 50, DELETE_ACCESS: 51, ENABLE_ACCESS: 52, DISABLE_ACCESS: 53}
@@ -121,6 +131,18 @@ def regulatory(powers=POWERS, information=HOPS):
     return parameter(143, struct.pack(">HH", 840, 1) + parameter(144, band + parameter(328, mode)))
 
 
+def keepalives(period):
+    """SET_READER_CONFIG without a reset, and a KeepaliveSpec with a period in milliseconds (section 13)."""
+    return b"\0" + parameter(220, struct.pack(">BI", 1, period))
+
+
+def made_of(antennas):
+    """The ROSpec that is made, with these antennas in place of all (section 11.2.2): its AISpec and itself are longer by the other numbers."""
+    more = 2 * len(antennas) - 2
+    numbers = struct.pack(">HH", 0xB7, 0x18 + more) + struct.pack(f">H{len(antennas)}H", len(antennas), *antennas)
+    return struct.pack(">HH", 0xB1, 0x41 + more) + MADE[4:].replace(bytes.fromhex("00B70018 00010000"), numbers)
+
+
 def made_with(hop_table, channel, power):
     """The ROSpec that is made, with an AntennaConfiguration of all antennas whose RFTransmitter has these fields (section 17.2.5)."""
     transmitter = parameter(222, struct.pack(">H", 0) + parameter(224, struct.pack(">HHH", hop_table, channel, power)))
@@ -147,8 +169,10 @@ class Reader:
 
     def __init__(
             self, tags=3, custom=False, end="close", refusals=0, denied=(), host="127.0.0.1", data=b"\xaa\xbb", odd=None, before=b"",
-            offers=b"", beside=(b"", b""), result=False):
+            offers=b"", beside=(b"", b""), result=False, port=0, piece=0, text="no\x1b[1m"):
         self.tags, self.custom, self.end, self.data, self.result = tags, custom, end, data, result
+        # how many octets of its frames the reader sends at a time (0 for all), and the text of a refusal
+        self.piece, self.text = piece, text
         # a frame between the reports, or, with the id of a request, before its response; and one before the connection is accepted
         self.odd, self.before = odd, before
         # what its capabilities have after LLRPStatus, and the frames in front of that answer and after it
@@ -158,7 +182,7 @@ class Reader:
         # held while something is sent and noted, so that no tag goes out once DISABLE_ROSPEC is noted
         self.turn = threading.RLock()
         self.accesses = set()
-        self.socket = socket.create_server((host, 0), family=socket.AF_INET6 if ":" in host else socket.AF_INET)
+        self.socket = socket.create_server((host, port), family=socket.AF_INET6 if ":" in host else socket.AF_INET)
         self.port = self.socket.getsockname()[1]
         threading.Thread(target=self.serve, daemon=True).start()
 
@@ -170,6 +194,7 @@ class Reader:
             except OSError:
                 return
             with client:
+                client.setsockopt(socket.IPPROTO_TCP, socket.TCP_NODELAY, 1)
                 try:
                     self.talk(client)
                 except OSError:
@@ -207,15 +232,19 @@ class Reader:
                 return
 
     def say(self, client, frames):
-        """Sends frames."""
+        """Sends frames, in pieces if it is to."""
         with self.turn:
             self.said += frames
-            client.sendall(frames)
+            size = self.piece or len(frames) or 1
+            for start in range(0, len(frames), size):
+                client.sendall(frames[start : start + size])
+                if self.piece:
+                    time.sleep(PIECE_PAUSE)
 
     def answer(self, kind, body):
         """The LLRPStatus of an answer, and what the request does to the ROSpecs."""
         if kind in self.denied:
-            return status_parameter(101, "no\x1b[1m")
+            return status_parameter(101, self.text)
         if kind == CAPABILITIES:
             return status_parameter(0) + self.offers
         if kind in (ADD_ACCESS, DELETE_ACCESS, ENABLE_ACCESS, DISABLE_ACCESS):
@@ -457,6 +486,14 @@ def messages_runs():
         yield f"--messages: {name}: its end", status == 1 and err.endswith("llrp: early\n")
         kinds = [json.loads(line).get("message") for line in out.splitlines()]
         yield f"--messages: {name}: the reports", kinds.count("RO_ACCESS_REPORT") == reader.tags
+    for size in (1, 9, 33):
+        reader = Reader(custom=True, piece=size)
+        _, out, _ = run(reader, "watch", "--messages")
+        yield f"--messages: pieces of {size}", out == shown(reader.said) and out.count("RO_ACCESS_REPORT") == reader.tags
+    reader = Reader(odd=lambda number: bytes.fromhex("083E00000009"))
+    status, out, err = run(reader, "watch", "--messages")
+    lawful = reader.said[: reader.said.index(b"\x08\x3e")]
+    yield "--messages: nothing after a length field of 9", (status, out) == (1, shown(lawful)) and out.count("RO_ACCESS_REPORT") == 1
     reader = Reader(end="torn")
     _, out, _ = run(reader, "watch", "--messages")
     yield "--messages: a torn frame has no line", out == shown(reader.said)
@@ -487,6 +524,15 @@ def messages_runs():
         yield f"--messages: the pauses {words}", len(out.splitlines()) == err.count("status 1") == 3 and "dock" not in out
 
 
+# The line of a tag with a result of a read and a maker's parameter, as docs/client.md has the members; the moment is left out.
+WHOLE_LINE = (
+    '{"at":"MOMENT","reader":"dock \\"1\\"","epc":"urn:epc:tag:sgtin-96:3.0614141.812345.0","antenna":1,"rssi":-60,'
+    '"FirstSeenTimestampUTC":1600000000000000,"TagSeenCount":1,"parameters":['
+    '{"parameter":"C1G2ReadOpSpecResult","Result":0,"OpSpecID":1,"words":[57856,13330]},'
+    '{"parameter":"Custom","VendorIdentifier":25882,"ParameterSubtype":37,"octets":"aabb"}]}\n'
+)
+
+
 def moments():
     """The host's time and the reader's name in each line, with JSON and with words."""
     for words in ((), ("--text",)):
@@ -505,6 +551,12 @@ def moments():
         yield f"--name {name!r}", [list(it)[:3] for it in lines] == [["at", "reader", "epc"]] * 2 and {it["reader"] for it in lines} == {name}
     _, out, _ = run(Reader(tags=1), "watch", "--name", "dock", "--text")
     yield "--name and --text", out.startswith(f"{epc_text(0)} 1 -60 ") and "dock" not in out
+    for size in (0, 1, 30):
+        how = {"tags": 1, "result": True, "custom": True, "piece": size}
+        _, out, _ = run(Reader(**how), "watch", "--name", 'dock "1"')
+        yield f"a whole line, pieces of {size}", MOMENT.sub("MOMENT", out) == WHOLE_LINE
+        _, out, _ = run(Reader(**how), "watch", "--text")
+        yield f"a whole line of words, pieces of {size}", MOMENT.sub("MOMENT", out) == f"{epc_text(0)} 1 -60 MOMENT\n"
 
 
 def ends_by_the_clock():
@@ -541,9 +593,29 @@ def ends_by_the_clock():
     took = time.monotonic() - start
     yield "--for and --again", status == 1 and set(err.splitlines()) == {"llrp: early"} and 3 <= took < 10
     yield "--for and --again: more than one connection", len(out.splitlines()) == reader.sent > 1
+    yield from ends_far_away()
     yield "--for and no reader", run_at(f"127.0.0.1:{free_port()}", "watch", "--for", "1") == (3, "", "llrp: network\n")
     for number in ("0", "4294967296", "x", ""):
         yield f"--for {number}", run_at("127.0.0.1", "watch", "--for", number)[0] == 2
+
+
+def ends_far_away():
+    """--for: an end in an hour changes neither how long a reader may be silent nor the pauses between connections; one that is near cuts both."""
+    for words in ((), ("--for", "3600")):
+        start = time.monotonic()
+        status, _, err = run(Reader(end="silent"), "watch", "--keepalive", "1", *words)
+        yield f"silence, and an end far away: {words}", (status, err) == (3, "llrp: read\n") and 3 <= time.monotonic() - start < 12
+        reader = Reader(refusals=9)
+        status, _, err = run(reader, "watch", "--again", "60", *words, seconds=5)
+        # after 0, 1 and 3 seconds, and not after 7
+        yield f"pauses, and an end far away: {words}", status is None and err == 3 * "llrp: status 1\n"
+    # the reader is silent from 0.2 seconds on; for a second after the end something could come, and then it may still be silent for five
+    start = time.monotonic()
+    status, _, err = run(Reader(end="silent"), "watch", "--for", "1", "--keepalive", "0")
+    yield "silence, and an end that is near", (status, err) == (3, "llrp: read\n") and 6 <= time.monotonic() - start < 13
+    start = time.monotonic()
+    status, _, err = run(Reader(refusals=9), "watch", "--for", "2", "--again", "60")
+    yield "a pause, and an end that is near", status == 1 and err == 2 * "llrp: status 1\n" and 2 <= time.monotonic() - start < 6
 
 
 def odd_frames():
@@ -584,6 +656,14 @@ def option_runs():
     reader.asked.clear()
     run(reader, "watch", "--antennas", "1,2")
     yield "--antennas", bodies(reader, ADD) == [MADE_OF_TWO]
+    for numbers in ([1], [65535], [4, 3, 2, 1]):
+        reader.asked.clear()
+        run(reader, "watch", "--antennas", ",".join(map(str, numbers)))
+        yield f"--antennas {numbers}", bodies(reader, ADD) == [made_of(numbers)]
+    for seconds in (1, 65535):
+        reader.asked.clear()
+        run(reader, "watch", "--keepalive", str(seconds))
+        yield f"--keepalive {seconds}", bodies(reader, SET_CONFIG) == [keepalives(1000 * seconds)]
     status, out, _ = run(reader, "watch", "--text")
     yield "--text", [line.rsplit(" ", 1)[0] for line in out.splitlines()] == [f"{epc_text(serial)} 1 -60" for serial in range(reader.tags)]
     with tempfile.NamedTemporaryFile("w", suffix=".rospec") as file:
@@ -615,6 +695,8 @@ def powers():
         status, out, err = run(reader, "watch", "--keepalive", "0", "--power", power)
         yield f"--power {power}", bodies(reader, ADD) == [made_with(*fields)] and (status, err, len(out.splitlines())) == (1, "llrp: early\n", 3)
     yield "--power: the requests", asked(reader) == ["CAPABILITIES", "DELETE", "ADD", "ENABLE", "START"]
+    yield from powers_read()
+    yield from powers_said()
     yield "--power: what is asked for", bodies(reader, CAPABILITIES) == [b"\x03"]
     reader = Reader(offers=regulatory(((1, -250), (2, -150)), CHANNELS))
     run(reader, "watch", "--power=-2")
@@ -647,6 +729,34 @@ def powers():
     yield "--power and --again", asked(reader).count("CAPABILITIES") >= 2 and set(bodies(reader, ADD)) == {made_with(7, 0, 5)}
     notes, _ = notes_of(Reader(offers=regulatory()), "--power", "30")
     yield "--power and --verbose", notes[1] == "the reader accepted the connection" and notes.count(notes[1]) == 1
+
+
+# Texts of powers, and the hundredths of a dBm that each writes; and texts that write none, or one beyond the bounds of TransmitPowerValue, which is
+# a signed number of 16 bits (LLRP 1.1, section 17.2.3).
+READ_POWERS = (
+    ("25.5", 2550), ("25.50", 2550), ("+25.5", 2550), ("0", 0), ("-0", 0), ("0.01", 1), ("-0.01", -1), ("30", 3000), ("31.5", 3150), ("007.05", 705),
+    ("327.67", 32767), ("-327.68", -32768), ("-10", -1000), ("10.00", 1000),
+)
+NO_POWERS = ("", "-", "+", ".", "1.", ".5", "1.234", "1,5", "1e2", " 1", "1 ", "--1", "+-1", "327.68", "-327.69", "1000", "1.5.2")
+
+
+def powers_read():
+    """Which power a text writes: of entries a hundredth of a dBm below it, at it and above it the reader is to use the one at it."""
+    for text, power in READ_POWERS:
+        entries = [(index, it) for index, it in enumerate((power - 1, power, power + 1), 1) if -32768 <= it <= 32767]
+        reader = Reader(tags=1, offers=regulatory(entries))
+        run(reader, "watch", "--keepalive", "0", f"--power={text}")
+        yield f"--power={text}: its entry", bodies(reader, ADD) == [made_with(7, 0, 2)]
+    for text in NO_POWERS:
+        wanted = (2, "", f"error: {NO_POWER}\n\nFor more information, try '--help'.\n")
+        yield f"--power={text!r}", run_at("127.0.0.1", "watch", f"--power={text}") == wanted
+
+
+def powers_said():
+    """How a power is written where the least of a reader is above the one that is asked for: with two decimals. Nothing is below -327.68."""
+    for power, text in ((2550, "25.50"), (0, "0.00"), (-1, "-0.01"), (32767, "327.67"), (-32767, "-327.67"), (1005, "10.05")):
+        wanted = (1, "", f"llrp: power least {text}\n")
+        yield f"--power: the least is {text}", run(Reader(offers=regulatory(((1, power),))), "watch", "--power=-327.68") == wanted
 
 
 # The AccessSpec of examples/tid.access (LLRP 1.1, sections 12 and 16): AccessSpec 9 for all antennas, C1G2 and ROSpec 5084, its stop trigger,
@@ -774,7 +884,7 @@ def words_that_clash():
         (("watch", "--rospec", "x", "--id", "1"), "the argument '--rospec <FILE>' cannot be used with '--id <N>'"),
         (("watch", "--rospec", "x", "--antennas", "1"), "the argument '--rospec <FILE>' cannot be used with '--antennas <LIST>'"),
         (("watch", "--rospec", "x", "--power", "1"), "the argument '--rospec <FILE>' cannot be used with '--power <DBM>'"),
-        (("watch", "--power", "25.555"), "invalid value for '--power <DBM>': expected a number from -327.68 to 327.67 with at most two decimals"),
+        (("watch", "--power", "25.555"), NO_POWER),
         (("watch", "--messages", "--text"), "the argument '--messages' cannot be used with '--text'"),
         (("watch", "--text", "--keys"), LABEL_CLASH),
         (("watch", "--messages", "--keys"), LABEL_CLASH),
@@ -782,19 +892,32 @@ def words_that_clash():
         (("watch", "--schemes", "most"), LABEL_CLASH),
         (("inventory", "5084", "--keys"), LABEL_CLASH),
         (("inventory", "5084", "--json", "--schemes", "most"), LABEL_CLASH),
-        (("watch", "--antennas", "1,,2"), "invalid value for '--antennas <LIST>': expected numbers from 1 to 65535 with commas between them"),
+        *((("watch", "--antennas", it), NO_ANTENNAS) for it in ("", "0", "1,", ",1", "1,,2", "01", "+1", "1 2", "65536", "all", "1;2")),
         (("stop", "--rospec", "x", "--id", "1"), "the argument '--rospec <FILE>' cannot be used with '--id <N>'"),
     ):
         wanted = (2, "", f"error: {said}\n\nFor more information, try '--help'.\n")
         yield " ".join(words), run_at("127.0.0.1", *words) == wanted
     for command in ("watch", "stop"):
-        for address in ("", ":5084", "reader:0", "reader:65536", "[::1"):
-            status, out, err = run_at(address, command)
-            yield f"{command} '{address}'", (status, out) == (2, "") and err.startswith("error: invalid value for '<HOST>': ")
+        for address in ("", ":5084", "reader:", "reader:0", "reader:65536", "reader:http", "[::1", "[::1]5084"):
+            yield f"{command} '{address}'", run_at(address, command) == (2, "", f"error: {NO_ADDRESS}\n\nFor more information, try '--help'.\n")
 
 
 def addresses():
-    """An IPv6 address stands in brackets where a port follows."""
+    """Where it connects: at LLRP's port where no port is given. An IPv6 address stands in brackets where a port follows."""
+    # (an address of this machine that nothing else listens at; the IPv6 address that stands for it reaches the same socket)
+    host = f"127.{random.randrange(1, 255)}.{random.randrange(256)}.{random.randrange(1, 255)}"
+    for port in (LLRP_PORT, 65535):
+        reader = Reader(host=host, port=port)
+        own = port == LLRP_PORT
+        for address, shown_host in ((host, host), (f"::ffff:{host}", f"[::ffff:{host}]"), (f"[::ffff:{host}]", f"[::ffff:{host}]")):
+            if own or not address.startswith("::"):
+                notes, _ = notes_of_address(address if own else f"{address}:{port}")
+                yield f"{address}, {port}", notes[:1] == [f"connected to {shown_host}:{port}"]
+        yield f"a host and port {port}", serials(run_at(f"{host}:{port}", "watch")[1]) == [epc_text(serial) for serial in range(reader.tags)]
+        reader.socket.close()
+    reader = Reader()
+    yield "a name and a port", serials(run_at(f"localhost:{reader.port}", "watch")[1]) == [epc_text(serial) for serial in range(reader.tags)]
+    yield "the least port", run_at(f"{host}:1", "watch") == (3, "", "llrp: network\n")
     if os.path.exists("/proc/net/if_inet6"):
         reader = Reader(host="::1")
         _, out, _ = run_at(f"[::1]:{reader.port}", "watch")
@@ -864,6 +987,14 @@ def save_runs():
         with open(path + "2", "rb") as file:
             saved = file.read()
         yield "--save: no long frame", saved == reader.said[: len(saved)] and b"Custom" not in saved and 0 < len(saved) < 4096
+        for size in (0, 1000, 4095, 4097):
+            for octets in (4096, 4097):
+                odd = frame(KEEPALIVE, 9000, bytes(octets - 10))
+                reader, path = Reader(odd=lambda number, it=odd: it, piece=size), os.path.join(folder, f"{size}.{octets}")
+                run(reader, "watch", "--limit", "4096", "--save", path)
+                with open(path, "rb") as file:
+                    wanted = reader.said if octets == 4096 else reader.said.replace(odd, b"")
+                    yield f"--save: a frame of {octets}, pieces of {size}", file.read() == wanted and reader.said.count(odd) == 2
     reader = Reader()
     yield "--save: no folder", run(reader, "watch", "--save", "/nonexistent/dock") == (3, "", "llrp: save\n") and not reader.asked
     status, out, err = run(Reader(), "watch", "--save", "/dev/full")
@@ -872,16 +1003,21 @@ def save_runs():
 
 def notes_of(reader, *words, **how):
     """The notes of a run, without what stands in front of each, and the other lines."""
-    _, _, err = run(reader, "watch", "--verbose", *words, **how)
+    return notes_of_address(f"127.0.0.1:{reader.port}", *words, **how)
+
+
+def notes_of_address(address, *words, **how):
+    """The same of a run at an address."""
+    _, _, err = run_at(address, "watch", "--verbose", *words, **how)
     lines = err.splitlines()
     return [it.removeprefix("llrp: note: ") for it in lines if it.startswith("llrp: note: ")], [it for it in lines if "note: " not in it]
 
 
-def journal_lines(reader):
-    """The lines of a run whose standard error is named as the journal's."""
+def journal_lines(reader, named="{device}:{inode}"):
+    """The lines of a run whose standard error is named as the journal's, or otherwise."""
     read, write = os.pipe()
     data = os.fstat(write)
-    environment = {**os.environ, "JOURNAL_STREAM": f"{data.st_dev}:{data.st_ino}"}
+    environment = {**os.environ, "JOURNAL_STREAM": named.format(device=data.st_dev, inode=data.st_ino)}
     command = [PROGRAM, "watch", f"127.0.0.1:{reader.port}", "--verbose"]
     with subprocess.Popen(command, stdout=subprocess.DEVNULL, stderr=write, env=environment):
         os.close(write)
@@ -911,6 +1047,44 @@ def verbose_runs():
     yield "--verbose: which message", any(it.startswith("  0 START_ROSPEC_RESPONSE 1 9999") for it in notes)
     lines = journal_lines(Reader(denied=[ADD]))
     yield "--verbose: for the journal", lines[0].startswith("<6>llrp: note: connected to ") and any(it.startswith("<4>llrp: note: a req") for it in lines)
+    for named in ("", "{device}", "{device}:", "{device}:x", "{device}:{inode}:2", ":{inode}", "{inode}:{device}", "0:18446744073709551615"):
+        lines = journal_lines(Reader(tags=1), named)
+        yield f"--verbose: JOURNAL_STREAM is {named!r}", lines[0].startswith("llrp: note: connected to ") and not [it for it in lines if it.startswith("<")]
+    yield from verbose_answers()
+    yield from verbose_texts()
+
+
+# ERROR_MESSAGE (LLRP 1.1, section 17.1), and an event that is no ConnectionAttemptEvent: an AntennaEvent (section 14.2.2), as antenna 2 is
+# connected.
+ERROR_MESSAGE = 100
+ANTENNA_EVENT = parameter(246, parameter(128, struct.pack(">Q", 0)) + parameter(255, struct.pack(">BH", 1, 2)))
+
+
+def verbose_answers():
+    """What --verbose says of a response under the id of ADD_ROSPEC, before the one that is awaited, or under another."""
+    done = status_parameter(0)
+    for name, odd, said in (
+        ("its own, another id", lambda number: frame(RESPONSES[ADD], number + 1, done), "ADD_ROSPEC_RESPONSE answers no request; pending is ADD_ROSPEC"),
+        ("another's, its id", lambda number: frame(RESPONSES[START], number, done), "START_ROSPEC_RESPONSE answers no request; pending is ADD_ROSPEC"),
+        ("ERROR_MESSAGE", lambda number: frame(ERROR_MESSAGE, number, status_parameter(101)), "a request was refused: status 101, M_FieldError"),
+    ):
+        notes, _ = notes_of(Reader(odd=odd, end="pending"), "--keepalive", "0")
+        # (DELETE_ROSPEC of a ROSpec that is not there was refused before it)
+        yield f"--verbose: an answer: {name}: {notes}", said in notes[notes.index("  2 FieldError 0 101") + 1 :]
+    # a KEEPALIVE before it, which the client acknowledges, leaves the request pending
+    notes, _ = notes_of(Reader(odd=lambda number: frame(KEEPALIVE, number), end="pending", piece=10), "--keepalive", "0", "--for", "1")
+    yield "--verbose: KEEPALIVE_ACK is no request", not [it for it in notes if "answers no request" in it]
+    notes, _ = notes_of(Reader(odd=lambda number: frame(EVENT, number, ANTENNA_EVENT)))
+    yield "--verbose: an event", notes.count("an event") == 2 and notes.count("  2 AntennaEvent 1 2") == 2
+
+
+def verbose_texts():
+    """What --verbose says of the text that a reader gives to a refusal: printable ASCII as it is, other octets by their digits."""
+    for text, said in (("no", ["no"]), ("n\x1b[", ["n\\x1b["]), ("\u00e9", ["\\xc3\\xa9"]), ("", [])):
+        notes, _ = notes_of(Reader(denied=[ADD], text=text), "--keepalive", "0")
+        at = notes.index("  0 ADD_ROSPEC_RESPONSE 1 2")
+        told = [it.removeprefix("  the reader says: ") for it in notes[at - 2 : at] if "the reader says" in it]
+        yield f"--verbose: the reader's text {text!r}", told == said
 
 
 def again_runs():
@@ -936,16 +1110,28 @@ def stop_runs():
     yield "stop: a reader that refuses", run(Reader(refusals=9), "stop", "--timeout", "1")[::2] == (1, "llrp: status 1\n")
 
 
-PARTS = (
-    plain_runs, all_of_a_tag, label_runs, option_runs, powers, access_runs, access_refusals, access_files, messages_runs, moments, ends_by_the_clock, odd_frames,
-    addresses, words_that_clash, bad_ends, ends_of_its_own, save_runs, verbose_runs, again_runs, stop_runs, long_runs
+# Parts that run side by side, since each run has a reader of its own and most of it is waiting; those that wait longest first.
+SIDE_BY_SIDE = (
+    ends_by_the_clock, messages_runs, access_runs, access_refusals, powers, bad_ends, odd_frames, again_runs, verbose_runs, save_runs, label_runs,
+    option_runs, plain_runs, all_of_a_tag, access_files, addresses, words_that_clash, ends_of_its_own, stop_runs,
 )
+# Parts that measure moments or memory run alone.
+ALONE = (moments, long_runs)
+
+
+def made(part):
+    """Returns the results of a part. A part that ends by an error has one that says so."""
+    try:
+        return list(part())
+    except Exception as error:
+        return [(f"{part.__name__}: {error!r}", False)]
 
 
 def main():
     """Makes all runs."""
-    results = [result for part in PARTS for result in part()]
-    return finish_results(results, LEAST)
+    with concurrent.futures.ThreadPoolExecutor(PARTS_AT_ONCE) as pool:
+        results = [result for each in pool.map(made, SIDE_BY_SIDE) for result in each]
+    return finish_results([*results, *(result for part in ALONE for result in made(part))], LEAST)
 
 
 if __name__ == "__main__":

@@ -21,10 +21,21 @@ from parts.counting import finish, snippet, text_of
 from parts.repository import TOP
 
 # How many things are checked, and how many tests the package has.
-LEAST, TESTS = 30, 127
+LEAST, TESTS = 67, 148
 # The Python for which Debian has pip, pytest and mypy.
 PYTHON = "/usr/bin/python3"
 LIBRARY = "libllrp_c.so.0"
+# What is beside the package and has types.
+SCRIPTS = ["python/check_definitions.py", "python/write_standard.py"]
+ENTRY_POINTS = """\
+[console_scripts]
+llrp-conform = llrp_epc.conform:main
+llrp-makers = llrp_epc.makers:main
+llrp-xml = llrp_epc.ltkxml:main
+
+[pytest11]
+llrp = llrp_epc.conform_pytest
+"""
 # pip asks no registry, and Python leaves nothing of what it compiled.
 ENVIRONMENT = {"PIP_NO_INDEX": "1", "PIP_DISABLE_PIP_VERSION_CHECK": "1", "PIP_ROOT_USER_ACTION": "ignore", "PYTHONDONTWRITEBYTECODE": "1"}
 
@@ -53,7 +64,7 @@ def pip(command, folder):
 
 def checks_of_wheel(wheel):
     """Yields whether the wheel has its name, the package with the library, and no more."""
-    version = re.search(r'const VERSION: &str = "([^"]+)"', text_of("crates/llrp_commands/src/arguments/commands.rt"))[1]
+    version = re.search(r'const VERSION: &str = "([^"]+)"', text_of("crates/llrp_words/src/arguments/commands.rt"))[1]
     platform = re.sub(r"[-.]", "_", sysconfig.get_platform())
     yield f"the wheel's name: {wheel}", os.path.basename(wheel) == f"llrp_epc-{version}-py3-none-{platform}.whl"
     with zipfile.ZipFile(wheel) as file:
@@ -65,15 +76,25 @@ def checks_of_wheel(wheel):
         with open(os.path.join(TOP, "out", LIBRARY), "rb") as library:
             yield "the library in the wheel", file.read(f"llrp_epc/{LIBRARY}") == library.read()
         metadata = file.read(f"llrp_epc-{version}.dist-info/METADATA").decode()
+        yield "the wheel's commands and plugin", file.read(f"llrp_epc-{version}.dist-info/entry_points.txt").decode() == ENTRY_POINTS
         yield "the wheel's version", f"\nVersion: {version}\n" in metadata and "Requires-Dist" not in metadata
+
+
+# A wrong use of each call, by what it is given, and of those that return more than octets or a text also by what they return.
+WRONG_USES = [
+    "Llrp().encode(b'')", "Llrp().pack('')", "Llrp().text_of_word('')", "Llrp().text_and_fault('')", "Llrp().word_of_text('').format()",
+    "Llrp().word(b'')", "Llrp().forms('')", "Llrp().forms(b'')[0]", "list(Llrp().stream(''))", "Llrp().messages('')", "Llrp().list('')",
+    "Llrp().list(b'')[0].none", "Llrp().explain('')", "Llrp().explain(b'').none()", "Llrp().tags('')", "Llrp().tags(b'')[0].none",
+    "Llrp().frame_length('')", "Llrp().name('')",
+]
 
 
 def checks_of_types(folder):
     """Yields whether mypy finds nothing in the package, its tests and the examples, and finds a wrong use of the package."""
     words, how = ["mypy", "--strict", "--cache-dir", f"{folder}/mypy"], {"cwd": TOP, "MYPYPATH": "python"}
-    status, told = run(*words, "python/llrp_epc", "python/tests", "examples/python", **how)
+    status, told = run(*words, "python/llrp_epc", "python/tests", "examples/python", *SCRIPTS, **how)
     yield f"mypy finds nothing\n{told}", status == 0
-    for wrong in ("Llrp().encode(b'')", "Llrp().text_of_word('')", "list(Llrp().stream(''))", "Llrp().word_of_text('').format()", "Llrp().pack('')"):
+    for wrong in WRONG_USES:
         status, told = run(*words, "-c", f"from llrp_epc import Llrp\n{wrong}", **how)
         yield f"mypy refuses {wrong}\n{told}", status == 1 and told.endswith("Found 1 error in 1 file (checked 1 source file)\n")
 
@@ -85,6 +106,15 @@ def checks_of_help(installed):
     code = "import llrp_epc as it; print([v for o in (it, it.Llrp) for v in vars(o).values()"
     code += " if type(v) in (type, type(o.__init__)) and not v.__doc__])"
     yield "each name has a sentence", run(PYTHON, "-c", code, cwd=installed) == (0, "[]\n")
+
+
+def checks_of_commands(installed):
+    """Yields whether the wheel's commands run, and whether pytest finds its plugin by itself."""
+    for name in re.findall(r"(?m)^(llrp-\w+) = ", ENTRY_POINTS):
+        status, told = run(f"{installed}/bin/{name}", "--help", cwd=installed, PYTHONPATH=installed)
+        yield f"{name} --help\n{told}", status == 0 and f"usage: {name} " in told
+    status, told = run("pytest-3", "--help", cwd=installed, PYTHONPATH=installed)
+    yield "the plugin of pytest", status == 0 and "--llrp=HOST[:PORT]" in told
 
 
 def runs_in_python(code, names):
@@ -126,6 +156,7 @@ def checks(folder):
     yield f"the wheel is installed\n{told}", status == 0
     yield from checks_of_types(folder)
     yield from checks_of_help(installed)
+    yield from checks_of_commands(installed)
     yield from checks_of_documents(installed)
 
 

@@ -18,12 +18,12 @@ from parts.dissector import differences, dissected
 from parts.frames import lawful_cases
 from parts.repository import program_given
 from parts.standard import LINES, ROWS, groups_of
-from parts.table_page import compared, epc_compared, profile_compared
+from parts.table_page import compared, epc_compared, further_compared, profile_compared
 
 # How many frames the program reads in one run.
 MOST_FRAMES = 4000
 # How many cases there are.
-LEAST = 41905
+LEAST = 42090
 
 
 def run(program, command, given, *options):
@@ -175,6 +175,7 @@ def results(program):
     yield from compared()
     yield from profile_compared()
     yield from epc_compared()
+    yield from further_compared()
 
 
 def main():

@@ -1,6 +1,7 @@
 #!/usr/bin/env python3
 """Compares the commands, flags and values that the program's help names with the manual page, README.md and the completions of bash, zsh
-and fish, which these shells answer; compares bounds, defaults, statuses and other figures of the pages with the program and its sources;
+and fish, which these shells answer; compares what the help says of an option with the manual page and the completions; compares bounds,
+defaults, statuses and other figures of the pages with the program and its sources;
 runs the examples of the manual page and of the help; gives the program arguments that are no UTF-8; compares the copies of the script of
 three sightings, and the toolchain that README.md names with the one that is there; looks for the files that the pages name; and has groff
 look for faults of the manual pages.
@@ -19,7 +20,7 @@ import sys
 from parts.counting import finish_results, text_of
 from parts.repository import TOP, program_given
 
-LEAST = 228
+LEAST = 475
 BASH = """
 source completions/llrp.bash
 compopt() {{ echo "compopt $*"; }}
@@ -44,6 +45,9 @@ BOUND = {
     "bash": ("source completions/llrp.bash; complete -p llrp", "complete -o default -F _llrp llrp"),
     "zsh": ("fpath=($PWD/completions $fpath); autoload -Uz compinit; compinit -u -D; print $_comps[llrp]", "_llrp"),
 }
+# The numbers below twenty in words, and the tens.
+SMALL = "zero one two three four five six seven eight nine ten eleven twelve thirteen fourteen fifteen sixteen seventeen eighteen nineteen".split()
+TENS = "zero ten twenty thirty forty fifty sixty seventy eighty ninety".split()
 FISH = "source completions/llrp.fish; complete -C 'llrp {command}'; complete -C 'llrp {command}-'; complete -C 'llrp {command}--'"
 
 
@@ -213,6 +217,7 @@ def checks_of_bounds(program):
     page = " ".join(text_of("docs/client.md").split())
     yield "the default of --every in docs/client.md", f"with N of {none} (the default) it holds them" in page and f"N is {some} then, unless" in page
     yield from checks_of_watch(program, entries)
+    yield from checks_of_patience(entries)
     address = re.search(r'const THIS_MACHINE: &str = "([\d.]+)";', text_of("crates/llrp/src/sim.rt"))[1]
     entry = re.search(r"(?s)\.It Cm sim .*?(?=\.It )", text_of("docs/llrp.1"))[0]
     yield "the address of sim in the manual page", re.findall(r"\d+\.\d+\.\d+\.\d+", entry) == [address]
@@ -236,6 +241,83 @@ def checks_of_watch(program, entries):
     yield "the port of watch and stop", all(f"the port is {port} without one" in it for it in (watch, stop))
     told = (f"the id {own}", f"every {alive} seconds", f"{int(periods) * int(alive)} seconds")
     yield "watch in docs/client.md", all(it in page for it in told)
+
+
+# What pages say with numbers, and where those numbers stand: a page, its words with a place for each number, and for each the source and the
+# constant.
+FIGURES = (
+    ("docs/sim.md", "After {} seconds by the time of day in which it took nothing `sim` says `llrp: write`", ("llrp/src/speech.rt", "PATIENCE")),
+    ("docs/sim.md", "A client that comes while another is served is refused within a second, with `--all` too: it hears a ConnectionAttemptEvent of 2,"),
+    ("docs/sim.md", "with `--all` or `--clock` it is refused, as said"),
+    ("docs/sim.md", "A line has at most {} octets, and the script at most {} lines", ("llrp_live/src/script_reader.rt", "LONGEST_LINE"), ("llrp_endpoints/src/script.rt", "MOST_ENTRIES")),
+    ("docs/sim.md", "and there are at most {} lines", ("llrp_endpoints/src/script.rt", "MOST_ENTRIES")),
+    ("docs/sim.md", "and after {} lines, so an input without an end", ("llrp_endpoints/src/script.rt", "MOST_ENTRIES")),
+    ("docs/sim.md", "with their own ids, {} octets of text at most", ("llrp_live/src/script_reader.rt", "LONGEST_LISTING")),
+    ("docs/client.md", "or has sent nothing for {} seconds, but no more than {} times.", ("llrp/src/farewell.rt", "PATIENCE"), ("llrp/src/farewell.rt", "MOST_READS")),
+    ("docs/client.md", "then `--settle` seconds ({}) for further ones", ("llrp/src/access_command.rt", "SETTLE")),
+    ("docs/client.md", "It waits `--timeout` seconds ({}) for the connection", ("llrp/src/access_command.rt", "TIMEOUT")),
+    ("docs/client.md", "It waits `--timeout` seconds for each of these, {} if nothing is said", ("llrp/src/ask.rt", "PATIENCE")),
+    ("docs/client.md", "until the time is up, {} seconds if nothing is said", ("llrp/src/watch.rt", "PATIENCE")),
+    ("docs/capture.md", "At most {} connections may be open at once", ("llrp_capture/src/connections.rt", "MOST_CONNECTIONS")),
+)
+
+
+def constant(source, name):
+    """Returns a number of a source, as the pages write it."""
+    return with_commas(re.search(rf"const {name}: \w+ = ([\d_]+);", text_of(f"crates/{source}"))[1].replace("_", ""))
+
+
+def checks_of_patience(entries):
+    """Yields whether the manual page and the pages have the times and sizes of `sim`, `ask`, `access` and `watch` that the sources have."""
+    settle, timeout, patience = (constant(f"llrp/src/{it}.rt", name) for it, name in (("access_command", "SETTLE"), ("access_command", "TIMEOUT"), ("ask", "PATIENCE")))
+    yield "the default of --settle", f"to 65,535 seconds; {settle} by default." in entries["-settle"]
+    yield "the default of --timeout of ask and access", timeout == patience and f"to 65,535 seconds; {timeout} by default." in entries["-timeout"]
+    clients = re.search(r"None => (\d+),", text_of("crates/llrp/src/clients.rt"))[1]
+    yield "the default of --clients", f"where 0 is no end; {clients} by default." in entries["-clients"]
+    rate = re.search(r"const MOST_RATE: u16 = ([\d_]+);", text_of("crates/llrp/src/live_clock.rt"))[1].replace("_", "")
+    yield "the bounds of --clock", f"N times as fast, from 1 to {with_commas(rate)}." in entries["-clock"]
+    yield "the bounds of --clock in docs/sim.md", f"any N from 1 to {rate} stands in place of 10" in " ".join(text_of("docs/sim.md").split())
+    # (an AccessPassword has 32 bits, as docs/tables.md has it)
+    yield "the digits of a password", entries["-password-file"].endswith(f", {32 // 4} hexadecimal digits.")
+    for page, words, *numbers in FIGURES:
+        told = words.format(*(constant(*it) for it in numbers))
+        yield f"{page}: {told}", told in " ".join(text_of(page).split())
+
+
+# Words that say nothing of an option, and those of helps that their manual page says otherwise, by their first letters.
+PLAIN_WORDS = set("all and are besides does each first for from has have how its many not once that the this too what where which with without".split())
+SAID_OTHERWISE = {
+    "--all": "outs set", "--answers": "know", "--check": "sees tabl", "--every": "leav poll", "--keepalive": "neve", "--keys": "comp",
+    "--lock": "bank pass", "--prefixes": "file says", "--reports": "plac poll", "--verbose": "stra", "--write": "abcd hex user",
+}
+
+
+def stems(text):
+    """Returns the first letters of the words of a text."""
+    return {it[:4] for it in re.findall(r"[a-z]{3,}", text.lower()) if it not in PLAIN_WORDS}
+
+
+def checks_of_helps(program):
+    """Yields whether what the help says of an option is said with words of the manual page, in its entry or in the command's, or of the
+    completions."""
+    entries = entries_of_options()
+    described = text_of("docs/llrp.1").replace("\\-", "-").split(".Sh DESCRIPTION")[1].split("The options are")[0]
+    of_commands = dict(re.findall(r"(?ms)^\.It Cm (\w+)[^\n]*\n(.*?)(?=^\.It Cm |\Z)", described))
+    for command in sorted(commands_in(output(program, "--help")) - {"help"}):
+        listed = output(program, command, "--help").split("Options:\n")[1].split("\n\n")[0]
+        completed_by = descriptions("zsh", command)
+        for flag, said in re.findall(r"(?m)^ +(--[\w-]+)(?: <\w+>)? +(.*)$", listed):
+            known = " ".join([entries[flag[1:]], of_commands[command], completed_by[flag], SAID_OTHERWISE.get(flag, "")])
+            others = stems(said) - stems(known)
+            yield f"the help of {command} {flag}: {others}", not others
+
+
+def checks_of_names(program):
+    """Yields whether each name in capital letters in README.md stands in a help, on a page of docs/ or as a file too."""
+    helps = [output(program, it, "--help") for it in commands_in(output(program, "--help")) - {"help"}]
+    pages = [text_of(f"docs/{it}") for it in os.listdir(os.path.join(TOP, "docs")) if it.endswith((".md", ".1"))]
+    named, known = (set(re.findall(r"\b[A-Z]{3,}\b", it)) for it in (text_of("README.md"), " ".join([*helps, *pages, *os.listdir(TOP)])))
+    yield f"names in README.md alone: {named - known}", named <= known
 
 
 def statuses_of(text):
@@ -283,8 +365,12 @@ def checks_of_examples(program):
 
 
 def checks_of_toolchain():
-    """Yields whether README.md names the toolchain that is there."""
-    yield "the toolchain in README.md", f"(`{output('rt', 'version').strip()}`)" in text_of("README.md")
+    """Yields whether README.md and the pages name the toolchain that is there, wherever they name one."""
+    there = output("rt", "version").strip()
+    yield "the toolchain in README.md", f"(`{there}`)" in text_of("README.md")
+    for page in ("README.md", *(f"docs/{it}" for it in os.listdir(os.path.join(TOP, "docs")) if it.endswith(".md"))):
+        for named in re.findall(r"rattle-kit-\w+(?: logic \w+)?", text_of(page)):
+            yield f"the toolchain in {page}: {named}", named in (there, there.split()[0])
 
 
 def checks_of_limits(program):
@@ -303,22 +389,30 @@ def checks_of_limits(program):
         yield f"the limits in {name}", all(f"{int(it):,}" in text_of(name) for it in (most, limit)) and depth in text_of(name)
 
 
+def spelled(number):
+    """Returns a number below 100 in words."""
+    tens, ones = divmod(number, 10)
+    if number < 20:
+        return SMALL[number]
+    return TENS[tens] + (f"-{SMALL[ones]}" if ones else "")
+
+
 def checks_of_figures():
     """Yields whether README.md counts the crates of the program and the functions for C as they are."""
-    readme, words = text_of("README.md"), {10: "ten", 12: "twelve", 19: "nineteen", 20: "twenty", 21: "twenty-one", 22: "twenty-two", 23: "twenty-three", 25: "twenty-five", 31: "thirty-one"}
+    readme = text_of("README.md")
     sys.path.insert(0, TOP)
     import build  # (the script that knows which crates are below another)
 
     uses = build.dependencies()
     crates = len(build.below("llrp", uses)) + 1
-    yield "how many crates make up the program", f"{words.get(crates)} crates that make up the program" in readme
+    yield "how many crates make up the program", f"{spelled(crates)} crates that make up the program" in readme
     functions = len(re.findall(r"(?m)^\w+ llrp_\w+\(", text_of("include/llrp.h")))
-    yield "how many functions the header has", f"declares {words.get(functions)} functions" in readme
+    yield "how many functions the header has", f"declares {spelled(functions)} functions" in readme
 
 
 def checks_of_version(program):
     """Yields whether the version is the source's, and said as help is."""
-    version = re.search(r'const VERSION: &str = "([^"]+)"', text_of("crates/llrp_commands/src/arguments/commands.rt"))[1]
+    version = re.search(r'const VERSION: &str = "([^"]+)"', text_of("crates/llrp_words/src/arguments/commands.rt"))[1]
     done = subprocess.run([program, "--version"], capture_output=True, text=True, timeout=60)
     yield "version", (done.returncode, done.stdout, done.stderr) == (0, f"llrp {version}\n", "")
     alone = subprocess.run([program], capture_output=True, text=True, timeout=60)
@@ -337,7 +431,7 @@ def checks_of_script():
     """Yields whether those who cannot read the script of three sightings from its file have its lines."""
     lines = text_of("examples/inventory.script").splitlines()
     yield "three sightings", len(lines) == 3
-    for name in ("crates/test_devices/src/sightings.rt", "crates/llrp/src/both_ends/tests.rt", "tests/ends.rows"):
+    for name in ("crates/test_devices/src/sightings.rt", "tests/rows/refused.rows"):
         yield f"the three sightings in {name}", all(line in text_of(name) for line in lines)
 
 
@@ -364,7 +458,7 @@ def checks_of_manual():
 
 def main():
     program = program_given()
-    parts = (checks, checks_of_files_read, checks_of_version, checks_of_arguments, checks_of_limits, checks_of_bounds, checks_of_examples)
+    parts = (checks, checks_of_helps, checks_of_names, checks_of_files_read, checks_of_version, checks_of_arguments, checks_of_limits, checks_of_bounds, checks_of_examples)
     others = (checks_of_statuses, checks_of_toolchain, checks_of_figures, checks_of_script, checks_of_files, checks_of_manual)
     results = [*(it for part in parts for it in part(program)), *(it for part in others for it in part())]
     return finish_results(results, LEAST)

@@ -47,12 +47,12 @@ def run(library, program, words, which, given=b"", whole=False):
     return Ended(*ended, *counts)
 
 
-def each_refused(library, program, words, given=b"", whole=False):
+def each_refused(library, program, words, given=b"", whole=False, first=1):
     """Yields which request was refused and how that run ended: each request alone, then each with all after it, from the
-    first one until a run ends with none refused."""
+    first one, or another, until a run ends with none refused."""
     ample = run(library, program, words, "0", given, whole)
     for tail in ("", ".."):
-        number, refused = 0, None
+        number, refused = first - 1, None
         # (a run that a signal ended has no counts: there are no more requests than with enough memory)
         while refused != 0 and not (refused is None and number > (ample.requests or 0)):
             number += 1

@@ -158,31 +158,80 @@ def profile_compared():
 # ---- words of EPCs
 
 LAYOUT = "crates/tag_epc/specs/Layout.antt"
+# The layouts of further schemes, and the headers of all (TDS 1.13, section 14.2).
+FURTHER = "crates/tag_schemes/specs/Schemes.antt"
+HEADERS = {
+    "SGTIN-96": "30", "SSCC-96": "31", "SGLN-96": "32", "GRAI-96": "33", "GDTI-96": "2C", "GSRN-96": "2D", "GIAI-96": "34", "GSRNP-96": "2E",
+    "SGCN-96": "3F", "CPI-96": "3C",
+}
 
 
 def numbers_in(text):
     return [int(it) for it in re.findall(r"\d+", text)]
 
 
-def layouts():
-    """Yields of each layout of the definition its name, its header, the columns of its reference, its last part's bits and whether that is zeros."""
+def layouts(source=LAYOUT):
+    """Yields of each layout of a definition its name, its header, the columns of its reference, its last part's bits and whether that is zeros."""
     form = r'name = codes "([^"]*)";\s+header = 0x(\w+);\s+rows = partition_table \((.*?)\) \((.*?)\);\s+last_bits = (\d+);\s+zero_tail = (\w+);'
-    for name, header, bits, digits, last, zeros in re.findall(form, text_of(LAYOUT)):
+    for name, header, bits, digits, last, zeros in re.findall(form, text_of(source)):
         yield name.upper(), header.upper(), numbers_in(bits), numbers_in(digits), int(last), zeros == "true"
 
 
-def epc_rows():
-    """Yields the same of each scheme of the page's table."""
+def epc_tables():
+    """Returns the cells of each row of the page's tables of schemes: of the seven, of further ones, and of the forms of those."""
     page = text_of("docs/tables.md").split("\n## EPC words\n")[1].split("\n## ")[0]
-    rows = [[it.strip() for it in line.strip("|").split("|")] for line in page.split("\n| Scheme |")[1].split("\n\n")[0].split("\n")[2:]]
+    tables = [part.split("\n\n")[0].split("\n")[2:] for part in page.split("\n| Scheme |")[1:]]
+    return [[[it.strip() for it in line.strip("|").split("|")] for line in table] for table in tables]
+
+
+def epc_rows(rows):
+    """Yields the same of each scheme of a table of the page."""
     for first, second in zip(rows[::2], rows[1::2]):
         bits, digits = ([int(it) for it in row[3:10]] for row in (first, second))
-        yield first[0], first[1], bits, digits, numbers_in(first[10])[0], "all zero" in first[10]
+        last = [it for it in numbers_in(first[10].replace("a 1 and", "")) if it]
+        yield first[0], first[1], bits, digits, last[0] if last else 0, "all zero" in first[10] or first[10] == "none"
+
+
+def check_digit(digits):
+    """Returns the check digit of a key (GS1 General Specifications, section 7.9): from the right, each other digit counts three times."""
+    return str(-sum(int(it) * (3 if at % 2 == 0 else 1) for at, it in enumerate(reversed(digits))) % 10)
+
+
+def forms_of(name, pure):
+    """Returns element string, link and key of a pure identity URI of a further scheme (TDS 1.13, section 7)."""
+    company, reference, *serial = pure.split(":")[-1].split(".")
+    front = company + reference
+    digit = check_digit(front)
+    return {
+        "GIAI-96": (f"(8004){front}", f"/8004/{front}", f"giai {front}"),
+        "GSRNP-96": (f"(8017){front}{digit}", f"/8017/{front}{digit}", f"gsrnp {front}{digit}"),
+        "SGCN-96": (f"(255){front}{digit}{''.join(serial)}", f"/255/{front}{digit}{''.join(serial)}", f"gcn {front}{digit} {''.join(serial)}"),
+        "CPI-96": (f"(8010){front}(8011){''.join(serial)}", f"/8010/{front}/8011/{''.join(serial)}", f"cpi {front} {''.join(serial)}"),
+    }[name]
+
+
+def further_compared():
+    """Yields whether the page has the layouts of the further schemes, the headers of all, the forms of the examples, and right check digits in
+    each key of a fixed length that any page names."""
+    seven, further, forms, *_ = epc_tables()
+    for row, layout in zip(epc_rows(further), layouts(FURTHER)):
+        yield f"docs/tables.md: {row} in place of {layout}", row == layout
+    headers = {name: header for name, header, *_ in [*epc_rows(seven), *epc_rows(further)]}
+    yield f"docs/tables.md, the headers: {headers}", headers == HEADERS
+    for name, pure, *others in [[it.strip("`") for it in row] for row in forms]:
+        yield f"docs/tables.md, the forms of {pure}", tuple(others) == forms_of(name, pure)
+    for page in ("docs/tables.md", "docs/library.md", "docs/errors.md", "docs/client.md", "README.md"):
+        for name, key in re.findall(r"\b(gtin|sscc|gsrnp?|gcn) (\d{13,18})\b", text_of(page)):
+            yield f"{page}: {name} {key}", key[-1] == check_digit(key[:-1])
+    page = " ".join(text_of("docs/tables.md").split())
+    # (LLRP 1.1, section 17.2)
+    for told in ("one bit 1, 7 bits of type, and the value", "6 reserved bits, 10 bits of type, 16 bits of length in octets, these 4 octets among them"):
+        yield f"docs/tables.md: {told}", told in page
 
 
 def epc_compared():
     """Yields whether the page has the layouts of the definition: each scheme, the company prefix, and that of GID-96."""
-    found, wanted = list(epc_rows()), list(layouts())
+    found, wanted = list(epc_rows(epc_tables()[0])), list(layouts())
     yield "docs/tables.md, the schemes", len(found) == len(wanted) == 6
     for row, layout in zip(found, wanted):
         yield f"docs/tables.md: {row} in place of {layout}", row == layout

@@ -1,12 +1,11 @@
-"""The rows of the tests written in Rattle, read from their source, so that each is written once."""
+"""The conformance vectors of tests/rows/vectors.rows: streams of octets, and the listing of each."""
+import ast
 import os
 import re
 import sys
 from typing import NamedTuple
 
-from parts.repository import TOP
-
-SOURCES = [os.path.join(TOP, "crates", crate, "src") for crate in ("test_libraries", "test_ends")]
+from parts.repository import TESTS
 
 
 class Vector(NamedTuple):
@@ -33,27 +32,22 @@ class Vector(NamedTuple):
         return not any(line.startswith(("!", "?")) for line in self.listing.splitlines())
 
 
-def source(name):
-    path = next(it for it in (os.path.join(folder, name) for folder in SOURCES) if os.path.exists(it))
-    with open(path, encoding="utf-8") as file:
-        return file.read()
-
-
-def all_found(what, found, there):
-    """Returns what was found in a source; ends the script where that is not all that is there, or nothing is."""
-    if len(found) != there or not found:
-        sys.exit(f"WRONG: {len(found)} of {there} {what} were read from the tests' source")
-    return found
-
-
 def octets_of(digits):
     return bytes.fromhex(digits.replace(" ", ""))
 
 
+def vector_of(line):
+    """Returns the vector of a line of the file."""
+    name, digits, listing = line.split("\t")
+    return Vector(name, octets_of(digits.replace('"', "")), ast.literal_eval(listing))
+
+
 def vectors():
-    """Returns the conformance vectors: as many as the arrays that hold them are long."""
-    text = source("vectors.rt") + source("exchanged.rt")
-    form = r'name: "([^"]*)",\s*stream: "([^"]*)",\s*listing: "((?:[^"\\]|\\.)*)"'
-    there = sum(int(it) for it in re.findall(r"\[Vector; (\d+)\]", text))
-    found = all_found("vectors", re.findall(form, text), there)
-    return [Vector(name, octets_of(stream), listing.encode().decode("unicode_escape")) for name, stream, listing in found]
+    """Returns the conformance vectors; ends the script where there are not as many as the file's first line says."""
+    with open(os.path.join(TESTS, "rows", "vectors.rows"), encoding="utf-8") as file:
+        heading, *lines = file.read().splitlines()
+    found = [vector_of(line) for line in lines if not line.startswith("#")]
+    there = re.fullmatch(r"# (\d+) vectors: name, octets and listing, split by tabs", heading)
+    if not there or not found or len(found) != int(there[1]):
+        sys.exit(f"WRONG: {len(found)} vectors were read: {heading}")
+    return found
