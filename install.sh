@@ -1,7 +1,7 @@
 #!/usr/bin/env bash
 # Builds llrp and the library for C if need be, and installs below PREFIX (/usr/local) the program, its manual page, completions, the
 # unit for systemd, the examples, and the pages that its help names; the library, its header, its manual page and what pkg-config says of
-# it; and the package for Python, in the folder where Debian's python3 finds it below /usr. With --uninstall it removes these files.
+# it; and the package for Python with its commands, in the folder where Debian's python3 finds it below /usr. With --uninstall it removes these files.
 #
 #     ./install.sh
 #     PREFIX=~/.local ./install.sh
@@ -28,14 +28,19 @@ files=(
     "644 completions/_llrp share/zsh/site-functions/_llrp"
     "644 completions/llrp.fish share/fish/vendor_completions.d/llrp.fish"
 )
-for module in __init__.py _library.py _llrp.py py.typed; do
+for module in __init__.py _bench.py _checks_access.py _checks_connections.py _checks_readers.py _checks_rospecs.py _definitions.py _library.py \
+    _llrp.py _messages.py _standard.py _texts.py _typed.py client.py conform.py conform_pytest.py enumerations.tsv impinj.tsv ltkxml.py \
+    makers.py py.typed standard.tsv test_conform.py; do
     files+=("644 python/llrp_epc/$module $package/$module")
 done
-for page in client errors json recipes sim tables; do
+for command in llrp-conform llrp-makers llrp-xml; do
+    files+=("755 python/bin/$command bin/$command" "644 docs/$command.1 share/man/man1/$command.1")
+done
+for page in client conform errors json makers recipes sim tables xml; do
     files+=("644 docs/$page.md share/doc/llrp/$page.md")
 done
-for example in inventory.pcap inventory.script keepalive.hex report.hex report.txt requests.txt rospec.txt seen.awk shift.txt \
-    sightings.script tid.access two_antennas.rospec c/tags.c python/async_client.py python/client.py; do
+for example in add_rospec.xml inventory.pcap inventory.script keepalive.hex makers.script report.hex report.txt requests.txt rospec.txt \
+    seen.awk shift.txt sightings.script tid.access two_antennas.rospec c/tags.c python/async_client.py python/client.py; do
     files+=("644 examples/$example share/doc/llrp/examples/$example")
 done
 # The link by which cc finds the library, and what is written anew: what pkg-config says of the library, and the unit, with the program's

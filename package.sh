@@ -69,6 +69,9 @@ gzip -9nc "$top/CHANGELOG.md" >"$root/usr/share/doc/llrp/NEWS.gz"
 move_to libllrp-c0 usr/lib/libllrp_c.so.0
 move_to libllrp-c-dev usr/include/llrp.h usr/lib/libllrp_c.a usr/lib/libllrp_c.so usr/lib/pkgconfig/llrp.pc usr/share/man/man3/llrp.3.gz
 move_to python3-llrp-epc usr/lib/python3/dist-packages/llrp_epc
+for command in llrp-conform llrp-makers llrp-xml; do
+    move_to python3-llrp-epc "usr/bin/$command" "usr/share/man/man1/$command.1.gz"
+done
 find "$root/usr" -depth -type d -empty -delete
 
 add_documents llrp 'NEWS.gz has what changed.'
@@ -107,8 +110,11 @@ END
 pack python3-llrp-epc all <<END
 Section: python
 Depends: libllrp-c0 (>= $version), python3 (>= 3.8)
+Suggests: python3-pytest
 Description: tags and messages of RFID readers, by a proved library - for Python
  The package llrp_epc, which gives messages of the Low Level Reader Protocol
  1.1 as dicts, encodes them, and converts tags of the EPC Tag Data Standard
- 1.13, by the library libllrp_c.
+ 1.13, by the library libllrp_c. The command llrp-conform checks a reader by
+ what the protocol requires, llrp-makers names makers' parameters, and llrp-xml
+ converts messages to the XML of the LLRP Toolkits and back.
 END

@@ -34,9 +34,14 @@ class TagStruct(ctypes.Structure):
 
 
 def load(path: Optional[str]) -> ctypes.CDLL:
-    """Returns the library at a path. Without one it is the library in the package, or else the one that the system's loader finds."""
-    inside = os.path.join(os.path.dirname(os.path.abspath(__file__)), NAME)
-    library = ctypes.CDLL(path or (inside if os.path.exists(inside) else NAME))
+    """Returns the library at a path. Without one it is the library in the package, the one that is installed below the same prefix, or else the
+    one that the system's loader finds."""
+    package = os.path.dirname(os.path.abspath(__file__))
+    places = [package]
+    if package.endswith("/lib/python3/dist-packages/llrp_epc"):
+        places.append(package[: -len("/python3/dist-packages/llrp_epc")])
+    found = [os.path.join(place, NAME) for place in places if os.path.exists(os.path.join(place, NAME))]
+    library = ctypes.CDLL(path or (found[0] if found else NAME))
     declare(library)
     return library
 

@@ -20,6 +20,16 @@ class Readable(Protocol):
         """Returns at most this many octets, and none at the end."""
 
 
+class Namer(Protocol):
+    """What names makers' parameters, as llrp_epc.makers.Makers."""
+
+    def named(self, item: Any, /) -> Any:
+        """Returns a message with the names."""
+
+    def plain(self, item: Any, /) -> Any:
+        """Returns a message without the names."""
+
+
 @dataclass(frozen=True)
 class Tag:
     """What a report says of a tag; None where it does not say it.
@@ -59,7 +69,8 @@ class Llrp:
     def __init__(self, path: Optional[str] = None) -> None:
         """Loads the library at a path, such as out/libllrp_c.so.0.
 
-        Without a path it is the library in the package, as a wheel has it, or else the one that the system's loader finds."""
+        Without a path it is the library in the package, as a wheel has it, the one that install.sh puts below the same prefix, or else the one
+        that the system's loader finds."""
         self.library = _library.load(path)
 
     # ---- tags
@@ -118,8 +129,8 @@ class Llrp:
 
     # ---- messages
 
-    def stream(self, readable: Readable, all: bool = False) -> Iterator[Message]:
-        """Yields each message of a stream as soon as it is whole, as a line of `llrp show --json` has it.
+    def stream(self, readable: Readable, all: bool = False, makers: Optional[Namer] = None) -> Iterator[Message]:
+        """Yields each message of a stream as soon as it is whole, as a line of `llrp show --json` has it, with the names of makers' tables.
 
         A frame that is no message is a dict with `fault`, `id` and `bit`. The last dict may have `broken`, where nothing can be found after
         it, or `rest`, the number of octets of an unfinished frame. A frame of more than 1,048,576 octets is not kept: it raises Refused
@@ -129,7 +140,7 @@ class Llrp:
         while piece := read(PIECE):
             received += piece
             if self._has_frame(received):
-                messages, used = self.messages(received, all)
+                messages, used = self.messages(received, all, makers)
                 del received[:used]
                 yield from messages
                 if "broken" in messages[-1]:
@@ -137,14 +148,16 @@ class Llrp:
         if received:
             yield {"rest": len(received)}
 
-    def messages(self, stream: Octets, all: bool = False) -> Tuple[List[Message], int]:
-        """Returns a dict for each of a stream's whole frames, and how many octets they have.
+    def messages(self, stream: Octets, all: bool = False, makers: Optional[Namer] = None) -> Tuple[List[Message], int]:
+        """Returns a dict for each of a stream's whole frames, and how many octets they have. With all=True and makers' tables, makers'
+        parameters have their names (llrp_epc.makers).
 
         A frame that is no message is a dict with `fault`, `id` and `bit`. A last dict with `broken` says that nothing can be found after
         it."""
         function = self.library.llrp_list_json_all if all else self.library.llrp_list_json
         lines, used, _ = self._listed(function, stream)
-        return [json.loads(line) for line in lines.split("\n")[:-1]], used
+        found = [json.loads(line) for line in lines.split("\n")[:-1]]
+        return [makers.named(message) for message in found] if makers else found, used
 
     def list(self, stream: Octets, all: bool = False) -> Tuple[str, int, bool]:
         """Returns the listing of a stream's whole frames, how many octets they have, and whether each is a message.
@@ -193,13 +206,14 @@ class Llrp:
             raise self._refusal(status, line.value)
         return octets
 
-    def pack(self, messages: Iterable[Message], all: bool = False) -> bytes:
+    def pack(self, messages: Iterable[Message], all: bool = False, makers: Optional[Namer] = None) -> bytes:
         """Returns the octets of messages, which are dicts as `messages` and `stream` give them, with their members in any order.
 
         Raises Refused for the first that is none, with its number, counted from 1, as `line`, and with the path of the member as `path`,
-        such as parameters[0].AntennaID; docs/json.md explains the names."""
+        such as parameters[0].AntennaID; docs/json.md explains the names. With makers' tables, makers' parameters may have their names."""
         function = self.library.llrp_encode_json_all if all else self.library.llrp_encode_json
-        lines = "".join(f"{json.dumps(message)}\n" for message in messages).encode()
+        plain = map(makers.plain, messages) if makers else messages
+        lines = "".join(f"{json.dumps(message)}\n" for message in plain).encode()
         room, path_room = len(lines), _library.PATH_ROOM
         while True:
             octets, path = ctypes.create_string_buffer(room + 1), ctypes.create_string_buffer(path_room)
