@@ -101,9 +101,12 @@ CRATES = {
     "llrp_endpoints": "both ends over bytes",
     "llrp_live": "a reader in real time",
     "llrp_general": "general clients",
+    "llrp_words": "words of commands",
     "llrp_commands": "the command line",
+    "llrp_files": "commands without sockets",
     "llrp_tool": "all under one name",
     "llrp": "the program",
+    "llrp_offline": "without sockets",
     "llrp_c": "the library for C",
 }
 WIDTH, HEIGHT = 160, 44
