@@ -1,6 +1,6 @@
 #!/usr/bin/env bash
-# Builds llrp and the library for C if need be, and installs below PREFIX (/usr/local) the program, its manual page, completions, the
-# unit for systemd, the examples, and the pages that its help names; the library, its header, its manual page and what pkg-config says of
+# Builds llrp and the library for C if need be, and installs below PREFIX (/usr/local) the program, llrp-capture, their manual pages,
+# completions, the unit for systemd, the examples, and the pages that the help names; the library, its header, its manual page and what pkg-config says of
 # it; and the package for Python with its commands, in the folder where Debian's python3 finds it below /usr. With --uninstall it removes these files.
 #
 #     ./install.sh
@@ -19,10 +19,12 @@ package=lib/python3/dist-packages/llrp_epc
 # Each file: its mode, its name here, and its name below PREFIX.
 files=(
     "755 crates/llrp/out/llrp bin/llrp"
+    "755 llrp-capture bin/llrp-capture"
     "644 out/libllrp_c.a lib/libllrp_c.a"
     "644 out/libllrp_c.so.0 lib/libllrp_c.so.0"
     "644 include/llrp.h include/llrp.h"
     "644 docs/llrp.1 share/man/man1/llrp.1"
+    "644 docs/llrp-capture.1 share/man/man1/llrp-capture.1"
     "644 docs/llrp.3 share/man/man3/llrp.3"
     "644 completions/llrp.bash share/bash-completion/completions/llrp"
     "644 completions/_llrp share/zsh/site-functions/_llrp"
@@ -36,7 +38,7 @@ done
 for command in llrp-conform llrp-makers llrp-xml; do
     files+=("755 python/bin/$command bin/$command" "644 docs/$command.1 share/man/man1/$command.1")
 done
-for page in client conform errors json makers recipes sim tables xml; do
+for page in capture client conform errors json makers recipes sim tables xml; do
     files+=("644 docs/$page.md share/doc/llrp/$page.md")
 done
 for example in add_rospec.xml inventory.pcap inventory.script keepalive.hex makers.script report.hex report.txt requests.txt rospec.txt \

@@ -85,11 +85,13 @@ echo 'activate-noawait ldconfig' >"$work/libllrp-c0/DEBIAN/triggers"
 pack llrp "$architecture" <<END
 Section: utils
 Depends: libc6 (>= 2.34)
+Recommends: tshark
 Suggests: libllrp-c-dev, python3-llrp-epc
 Description: tags and messages of RFID readers, by a proved program
  Lists streams of the Low Level Reader Protocol 1.1 as text and turns the text
  back into the stream, converts tags of the EPC Tag Data Standard 1.13, stands
- in for a reader, and takes inventory of one.
+ in for a reader, and takes inventory of one. The command llrp-capture lists the
+ messages of a capture of Wireshark or tcpdump, which tshark reads.
 END
 pack libllrp-c0 "$architecture" <<END
 Section: libs

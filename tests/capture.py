@@ -1,7 +1,8 @@
 #!/usr/bin/env python3
 """Compares what `llrp show --segments` lists of captures with what `show` lists of the octets that each side sent: two readers in one file,
 segments lost, repeated, swapped and one over the other, a capture that begins late, IPv6. The captures are written here, octet by octet,
-and read by examples/capture.sh, so by tshark; the lines of further ones are written here.
+and read by llrp-capture, so by tshark; the lines of further ones are written here. Of llrp-capture itself: its options, its statuses, what it
+makes of VLANs, fragments, tunnels and messages of ICMP, and its manual page.
 
 usage: tests/capture.py [PROGRAM]
 
@@ -10,6 +11,7 @@ The last line is the count.
 import json
 import os
 import re
+import shutil
 import struct
 import subprocess
 import sys
@@ -18,7 +20,7 @@ import tempfile
 from parts.counting import finish_results, text_of
 from parts.repository import TOP, program_given
 
-LEAST = 61
+LEAST = 95
 FIN, SYN, PSH, ACK = 1, 2, 8, 16
 KEEPALIVE = [bytes.fromhex("083E0000000A") + struct.pack(">I", number) for number in range(40)]
 REPORT = bytes.fromhex("043D0000001B0000000100F000118D3074257BF7194E4000001A85")
@@ -62,13 +64,41 @@ def packet(segment):
     return b"\0" * 12 + b"\x08\0" + header + tcp
 
 
-def pcap(segments):
-    """Returns a capture, one segment each half second."""
+def pcap(packets):
+    """Returns a capture of frames of Ethernet, one each half second."""
     made = struct.pack("<IHHiIII", 0xA1B2C3D4, 2, 4, 0, 0, 65535, 1)
-    for number, segment in enumerate(segments):
-        octets = packet(segment)
+    for number, octets in enumerate(packets):
         made += struct.pack("<IIII", 1700000000 + number // 2, number % 2 * 500000, len(octets), len(octets)) + octets
     return made
+
+
+def around(frame, protocol, front=b""):
+    """Returns a frame of Ethernet of which the IPv4 packet of another one is the payload, after some octets."""
+    inner = front + frame[14:]
+    header = struct.pack(">BBHHHBBH", 0x45, 0, 20 + len(inner), 2, 0, 64, protocol, 0) + packed("198.51.100.1") + packed("198.51.100.2")
+    return frame[:14] + header + inner
+
+
+def in_vlan(frame):
+    return frame[:12] + b"\x81\x00\x00\x2a" + frame[12:]
+
+
+def in_fragments(frame):
+    """Returns two frames, of which the first has 24 octets of the payload of IPv4 of a frame and the second the rest."""
+    header, inner = frame[14:34], frame[34:]
+    parts = [(inner[:24], 0x2000), (inner[24:], 3)]
+    return [frame[:14] + header[:2] + struct.pack(">HHH", 20 + len(part), 9, flags) + header[8:] + part for part, flags in parts]
+
+
+def ways_of_packets():
+    """Yields ways in which frames of Ethernet have the segments of the two readers, and the frames of each."""
+    frames = [packet(it) for it in two_readers()[0]]
+    yield "VLANs", [in_vlan(it) for it in frames]
+    yield "tunnels", [around(it, 4) if it[12:14] == b"\x08\0" else it for it in frames]
+    is_long = [it[12:14] == b"\x08\0" and len(it) > 60 for it in frames]
+    yield "fragments", [part for it, long in zip(frames, is_long) for part in (in_fragments(it) if long else [it])]
+    # (a router says of each segment that its time is over, and quotes it)
+    yield "messages of ICMP", [it for frame in frames for it in (frame, around(frame, 1, bytes([11, 0, 0, 0, 0, 0, 0, 0])))]
 
 
 def time_of(number):
@@ -138,15 +168,33 @@ def lines_of(segments):
     return "".join(line(number, it) + "\n" for number, it in enumerate(segments)).encode()
 
 
-def by_tshark(program, segments, words=()):
-    """Returns what examples/capture.sh prints of a capture."""
-    with tempfile.TemporaryDirectory() as folder:
+def of_script(program, *words, **environment):
+    """Returns the status of llrp-capture, what it printed, and its errors but what tshark says to root."""
+    how = {"capture_output": True, "text": True, "timeout": 60, "env": {**os.environ, "LLRP": program, **environment}}
+    done = subprocess.run([os.path.join(TOP, "llrp-capture"), *words], **how)
+    return done.returncode, done.stdout, re.sub(r"(?m)^Running as user .*\n", "", done.stderr)
+
+
+def of_octets(program, octets, *words, options=()):
+    """Returns the same for a file with these octets, after some words and before others."""
+    with tempfile.TemporaryDirectory(prefix="a space ") as folder:
         path = os.path.join(folder, "capture.pcap")
         with open(path, "wb") as file:
-            file.write(pcap(segments))
-        done = subprocess.run([os.path.join(TOP, "examples/capture.sh"), path, "5084", *words], capture_output=True, timeout=60,
-                              env={**os.environ, "LLRP": program})
-        return done.stdout.decode()
+            file.write(octets)
+        return of_script(program, *words, path, *options)
+
+
+def by_tshark(program, segments):
+    """Returns what llrp-capture prints of a capture."""
+    return of_octets(program, pcap(map(packet, segments)))[1]
+
+
+def followed(octets, stream):
+    """Returns the octets of the two sides of a connection, as tshark follows it."""
+    words = ["tshark", "-q", "-r", "-", "-z", f"follow,tcp,raw,{stream}"]
+    told = subprocess.run(words, input=octets, capture_output=True, timeout=60).stdout.decode()
+    lines = re.findall(r"(?m)^(\t?)([0-9a-f]+)$", told)
+    return [bytes.fromhex("".join(digits for tab, digits in lines if tab == side)) for side in ("", "\t")]
 
 
 def of_captures(program):
@@ -169,6 +217,73 @@ def of_captures(program):
                           ("tshark", by_tshark(program, segments))]:
         wanted = f"? GAP {len(REPORT) - 4}\n" + listed(program, b"".join(KEEPALIVE[:3]))
         yield f"{what}: a late start", of_side(listing, side) == wanted
+
+
+def of_readers(program):
+    """Yields what llrp-capture prints of a file with two readers: who is at the ends, what each of them said, and the same of other packets."""
+    segments, sides = two_readers()
+    octets = pcap(map(packet, segments))
+    whole = of_octets(program, octets)
+    ends = "0 192.0.2.17:5084 192.0.2.1:40000\n1 [2001:db8::17]:5084 [2001:db8::1]:40001\n"
+    yield "who is at the ends", of_octets(program, octets, "--connections") == (0, ends, "")
+    yield "who is at the ends, at another port", of_octets(program, octets, "--port", "40001", "--connections")[1] == "1 [2001:db8::1]:40001 [2001:db8::17]:5084\n"
+    for address, stream in [("192.0.2.17", 0), ("192.0.2.1", 0), ("2001:db8::17", 1), ("2001:DB8:0:0::1", 1), ("192.0.2.18", None)]:
+        wanted = "".join(f"# {time} {number} {side}\n{lines}" for time, number, side, lines in parted(whole[1]) if int(number) == stream)
+        yield f"only {address}", of_octets(program, octets, "--only", address) == (0, wanted, "")
+    for what, packets in ways_of_packets():
+        status, listing, _ = of_octets(program, pcap(packets))
+        yield f"{what}", status == 0 and [it[1:] for it in parted(listing)] == [it[1:] for it in parted(whole[1])]
+    for stream in (0, 1):
+        found = sorted(listed(program, it) for it in followed(octets, stream))
+        yield f"what tshark follows of stream {stream}", found == sorted(of_side(whole[1], side) for side, _ in sides if side.stream == stream)
+    wanted = run(program, ["--segments", "--json", "--all"], lines_of(segments)).stdout.decode()
+    yield "options of show", of_octets(program, octets, options=["--json", "--all"]) == (0, wanted, "")
+    yield "a word of show", of_octets(program, octets, "--port", "5084", options=["--limit", "20"])[1].count(" 16 MessageLength\n") == 2
+
+
+def of_failures(program):
+    """Yields how llrp-capture ends where tshark fails or is missing, and for mistakes in the command line."""
+    segments, side = with_gap()
+    octets = pcap(map(packet, segments))
+    status, listing, told = of_octets(program, octets)
+    yield "a gap has status 1", (status, listing, told) == (1, by_tshark(program, segments), "")
+    status, listing, told = of_octets(program, octets[:-3])
+    is_listed = of_side(listing, side) == listed(program, KEEPALIVE[0] + KEEPALIVE[1][:3])
+    yield f"a file that is cut: {told}", status == 3 and is_listed and re.fullmatch(r"tshark: .*\nllrp-capture: tshark ended with [1-9]\d*\n", told)
+    refused = "1700000000.0\t0\t192.0.2.17\t\t5084\t0x0010\t1\tno\n"
+    for what, rest in [("as tshark ends well", "seq 100000"), ("as tshark fails", "seq 100000; exit 7")]:
+        with tempfile.TemporaryDirectory() as folder:
+            with open(os.path.join(folder, "tshark"), "w", encoding="utf-8") as file:
+                file.write(f"#!/bin/sh\nprintf '{refused}'; {rest}\n")
+            os.chmod(file.name, 0o755)
+            found = of_script(program, "x", PATH=f"{folder}:{os.environ['PATH']}")
+        ended = (3, "llrp: line 1: Payload\nllrp-capture: tshark ended with 7\n") if "7" in rest else (1, "llrp: line 1: Payload\n")
+        yield f"a line that is refused, {what}: {found}", found == (ended[0], "", ended[1])
+    status, listing, told = of_script(program, "/nowhere.pcap")
+    yield f"no file: {told}", (status, listing) == (3, "") and re.search(r"(?m)^llrp-capture: tshark ended with [1-9]\d*\n\Z", told)
+    with tempfile.TemporaryDirectory() as folder:
+        for tool in ("bash", "dirname", "readlink", "env"):
+            os.symlink(shutil.which(tool), os.path.join(folder, tool))
+        wanted = (3, "", "llrp-capture: tshark is missing; Debian's package tshark has it\n")
+        yield "no tshark", of_script(program, "x", PATH=folder) == wanted
+    for words, told in [([], "no FILE"), (["--port"], "--port"), (["--port", "0", "x"], "--port"), (["--port", "65536", "x"], "--port"),
+                        (["--port", "5084 || tcp", "x"], "--port"), (["--only", "reader.example", "x"], "--only"), (["--all", "x"], "after FILE"),
+                        (["--only", "1.2.3.4||tcp", "x"], "--only"), (["--connections", "x", "--json"], "--connections")]:
+        status, listing, error = of_script(program, *words)
+        yield f"{words}: {error}", (status, listing) == (2, "") and error.startswith("llrp-capture: ") and told in error
+    status, listing, error = of_octets(program, octets, options=["--hex"])
+    yield f"a word that show refuses: {error}", (status, listing) == (2, "") and "--hex" in error
+
+
+def of_manual(program):
+    """Yields whether the help and the manual page have the same options, and what groff says of the page."""
+    status, told, _ = of_script(program, "--help")
+    manual = text_of("docs/llrp-capture.1")
+    options = set(re.findall(r"(?m)^  --(\w+)", told))
+    yield "the help", status == 0 and told.startswith("usage: llrp-capture ") and len(options) == 4
+    yield "the manual page", set(re.findall(r"(?m)^\.It Fl \\-(\w+)", manual)) == options
+    done = subprocess.run(["groff", "-mdoc", "-ww", "-z", "-Tutf8", "docs/llrp-capture.1"], cwd=TOP, capture_output=True, text=True, timeout=60)
+    yield "groff has nothing to say", (done.returncode, done.stdout, done.stderr) == (0, "", "")
 
 
 def of_long_frames(program):
@@ -252,7 +367,7 @@ def of_pages():
 
 def main():
     program = program_given()
-    results = [*of_captures(program), *of_long_frames(program), *of_json(program), *of_refusals(program), *of_pages()]
+    results = [*of_captures(program), *of_readers(program), *of_failures(program), *of_manual(program), *of_long_frames(program), *of_json(program), *of_refusals(program), *of_pages()]
     return finish_results(results, LEAST)
 
 

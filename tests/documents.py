@@ -49,10 +49,10 @@ def script_of(commands, program, folder):
     port = free_port()
     # a reader that is begun in the background is waited for, until it listens, where it is given its port
     listens = f"await grep -q ':{port:04X} 00000000:0000 0A' /proc/net/tcp"
-    lines = [AWAIT]
+    lines = [AWAIT, f"export LLRP={shlex.quote(program)}"]
     for command in commands:
         # what answers without the proofs is the script itself
-        ready = re.sub(r"\./llrp(?! --unproved)", lambda _: shlex.quote(program), command)
+        ready = re.sub(r"\./llrp(?!-| --unproved)", lambda _: shlex.quote(program), command)
         for file in ("report.pcap", "sim.log"):
             ready = ready.replace(file, shlex.quote(f"{folder}/{file}"))
         if re.search(r"\b(sim|127\.0\.0\.1)\b", command):

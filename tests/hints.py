@@ -20,8 +20,8 @@ KEEPALIVE = bytes.fromhex("083E0000000A00000007")
 MISTAKES = [
     (["show"], b"083E0000000A00000007\n", "--hex"),
     (["show"], b"04 3D 00 00", "--hex"),
-    (["show"], bytes.fromhex("D4C3B2A1020004000000000000000000"), "docs/capture.md"),
-    (["show"], bytes.fromhex("0A0D0D0A1C0000004D3C2B1A01000000"), "docs/capture.md"),
+    (["show"], bytes.fromhex("D4C3B2A1020004000000000000000000"), "llrp-capture FILE"),
+    (["show"], bytes.fromhex("0A0D0D0A1C0000004D3C2B1A01000000"), "llrp-capture FILE"),
     (["show"], b"HTTP/1.1 400 Bad Request\r\n\r\n", "protocol"),
     (["show", "--all"], b"SSH-2.0-OpenSSH_9.2\r\n", "protocol"),
     (["show"], b"0 KEEPALIVE 1 7\n", "encode"),

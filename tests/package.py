@@ -16,7 +16,7 @@ from parts.counting import finish_results, text_of
 from parts.repository import TOP
 
 # How many things are checked.
-LEAST = 60
+LEAST = 61
 TAG, WORD = "urn:epc:tag:sgtin-96:3.0614141.812345.6789", "3074257BF7194E4000001A85"
 # The newest version of the C library whose functions may be needed: that of `Depends`.
 GLIBC = (2, 34)
@@ -36,8 +36,10 @@ PACKAGES = {
     "llrp": ("utils", "libc6 (>= 2.34)", None),
     "libllrp-c0": ("libs", "libc6 (>= 2.34)", r"lib/libllrp_c\.so\.0"),
     "libllrp-c-dev": ("libdevel", "libllrp-c0 (= {version})", r"include/.*|lib/libllrp_c\.(a|so)|lib/pkgconfig/.*|share/man/man3/.*"),
-    "python3-llrp-epc": ("python", "libllrp-c0 (>= {version}), python3 (>= 3.8)", r"lib/python3/.*|bin/llrp-.*|share/man/man1/llrp-.*"),
+    "python3-llrp-epc": ("python", "libllrp-c0 (>= {version}), python3 (>= 3.8)", r"lib/python3/.*|(bin|share/man/man1)/llrp-(conform|makers|xml)\b.*"),
 }
+# What a package can do without, but not well.
+RECOMMENDED = {"llrp": "Recommends: tshark\n"}
 MAINTAINER = "Jukyreva <packages@jukyreva.example>"
 COPYRIGHT = "llrp, by Jukyreva. Copyright 2026 Jukyreva. All rights reserved.\n"
 
@@ -72,6 +74,7 @@ def checks_of_control(name, package, root):
     section, depends, _ = PACKAGES[name]
     how = {"name": name, "version": version, "architecture": architecture, "maintainer": MAINTAINER, "section": section}
     wanted = FIELDS.format(**how, depends=depends.format(version=version), size=output_of("du", "-sk", f"{root}/usr").split()[0])
+    wanted += RECOMMENDED.get(name, "")
     lines = [it for it in output_of("dpkg-deb", "-f", package).splitlines() if re.match(r"(?!Suggests|Description)\w", it)]
     yield f"what {name} says of itself", sorted(lines) == sorted(wanted.splitlines())
     documents = os.path.join(root, "usr/share/doc", name)
@@ -110,10 +113,16 @@ def checks_of_binaries(root):
         yield f"what {name} needs of the C library: {max(needs)}", max(needs) <= GLIBC
 
 
-def pages_of_help(program):
-    """Returns the pages that the program's help names."""
+def named_files(root):
+    """Returns the pages and examples that the program's help, its hints and the manual pages name, and the commands."""
+    program = f"{root}/usr/bin/llrp"
     commands = re.findall(r"(?m)^  (\w+) ", output_of(program, "--help").split("Commands:\n")[1].split("\n\n")[0])
-    return set(re.findall(r"docs/(\w+\.md)", "".join(output_of(program, it, "--help") for it in commands if it != "help")))
+    texts = [output_of(program, it, "--help") for it in commands if it != "help"]
+    texts += re.findall(r'"([^"]*)"', text_of("crates/llrp_files/src/hints.rt"))
+    texts += [unzipped(f"{root}/usr/share/man/man1/{it}") for it in sorted(os.listdir(f"{root}/usr/share/man/man1"))]
+    text = "\n".join(texts)
+    documents = set(re.findall(r"docs/(\w+\.md)|\b(examples/[\w./]+\w)|\.Pa (\w+\.md)", text))
+    return {it for found in documents for it in found if it}, set(re.findall(r"\bllrp-\w+", text.replace("\\-", "-")))
 
 
 def checks(packages, folder):
@@ -136,8 +145,11 @@ def checks(packages, folder):
     yield "what README.md says of a licence", ("There is no licence yet" in text_of("README.md")) != is_free
     yield "the news", unzipped(f"{root}/usr/share/doc/llrp/NEWS.gz") == text_of("CHANGELOG.md")
     yield from checks_of_binaries(root)
-    pages = pages_of_help(f"{root}/usr/bin/llrp")
-    yield f"the pages that the help names: {pages}", pages and pages <= set(os.listdir(f"{root}/usr/share/doc/llrp"))
+    named, commands = named_files(root)
+    missing = {it for it in named if not os.path.exists(f"{root}/usr/share/doc/llrp/{it}")}
+    yield f"what the help, the hints and the manual name is there but {missing}", len(named) > 8 and not missing
+    missing = {it for it in commands if not os.path.exists(f"{root}/usr/bin/{it}")}
+    yield f"the commands that they name are there but {missing}", len(commands) > 3 and not missing
 
     version = output_of("dpkg-deb", "-f", packages[0], "Version")
     yield "the program runs", output_of(f"{root}/usr/bin/llrp", "--version") == f"llrp {version}"

@@ -53,6 +53,7 @@ COMMANDS = ("llrp-conform", "llrp-makers", "llrp-xml")
 # Where install.sh puts each file.
 INSTALLED = {
     "bin/llrp": "crates/llrp/out/llrp",
+    "bin/llrp-capture": "llrp-capture",
     "lib/libllrp_c.a": "out/libllrp_c.a",
     "lib/libllrp_c.so": "out/libllrp_c.so.0",
     "lib/libllrp_c.so.0": "out/libllrp_c.so.0",
@@ -61,8 +62,9 @@ INSTALLED = {
     **{f"share/man/man1/{it}.1": f"docs/{it}.1" for it in COMMANDS},
     "include/llrp.h": "include/llrp.h",
     "share/man/man1/llrp.1": "docs/llrp.1",
+    "share/man/man1/llrp-capture.1": "docs/llrp-capture.1",
     "share/man/man3/llrp.3": "docs/llrp.3",
-    **{f"share/doc/llrp/{it}.md": f"docs/{it}.md" for it in ("client", "conform", "errors", "json", "makers", "recipes", "sim", "tables", "xml")},
+    **{f"share/doc/llrp/{it}.md": f"docs/{it}.md" for it in ("capture", "client", "conform", "errors", "json", "makers", "recipes", "sim", "tables", "xml")},
     "share/bash-completion/completions/llrp": "completions/llrp.bash",
     "share/zsh/site-functions/_llrp": "completions/_llrp",
     "share/fish/vendor_completions.d/llrp.fish": "completions/llrp.fish",

@@ -126,7 +126,7 @@ fn octets_hint(first: &[u8]) -> Option<&'static str> {
         [0xD4, 0xC3, 0xB2, 0xA1, ..]
         | [0xA1, 0xB2, 0xC3, 0xD4, ..]
         | [0x0A, 0x0D, 0x0D, 0x0A, ..] => {
-            Some("this is a capture file; docs/capture.md says how to list the messages in it")
+            Some("this is a capture file; llrp-capture FILE lists the messages in it")
         }
         [b'H', b'T', b'T', b'P', ..] | [b'S', b'S', b'H', b'-', ..] => {
             Some("this is not LLRP but another protocol")

@@ -18,9 +18,9 @@ names that they have with --all, and with --names profile, or without it, those 
 With --keys a tab and the key of an EPC follow it, and with --schemes all words of GIAI-96, GSRNP-96,
 SGCN-96, CPI-96 and USDoD-96 have their tag URIs; both read all of the input first, and go with no
 --json.
-With --segments the input is lines that examples/capture.sh makes of a capture. A line # TIME STREAM SIDE
-stands before each frame, where SIDE is reader or client; ? GAP N says that N bytes of that side are in no
-frame, since a segment is missing. With --json these are members.
+With --segments the input is lines that llrp-capture has tshark print of a capture. A line
+# TIME STREAM SIDE stands before each frame, where SIDE is reader or client; ? GAP N says that N bytes of
+that side are in no frame, since a segment is missing. With --json these are members.
 Of several files the greatest status counts; that of a file that cannot be read is 3.
 
 Example:

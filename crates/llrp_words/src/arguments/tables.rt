@@ -42,7 +42,7 @@ pub(super) const SHOW: [Row; 10] = [
     Row {
         name: "segments",
         takes: Takes::Flag,
-        help: "Read tshark's lines of a capture, as examples/capture.sh makes them",
+        help: "Read tshark's lines of a capture, as llrp-capture passes them on",
     },
     Row {
         name: "port",
