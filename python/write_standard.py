@@ -1,7 +1,7 @@
 #!/usr/bin/env python3
 """Writes python/llrp_epc/standard.tsv from the project's two tables: crates/llrp_schema/table.tsv, which says what lines of JSON have, and
-tests/llrp11.tsv, which has the standard's lists by name. What the XML of the LLRP Toolkits has besides stands here: the enumerations of
-fields, formats, names and the order of parameters.
+tests/llrp11.tsv, which has the standard's lists by name. What the XML of the LLRP Toolkits has besides stands here: formats, names and the
+order of parameters.
 
 usage: python/write_standard.py [--check]
 
@@ -15,29 +15,8 @@ TOP = os.path.dirname(os.path.dirname(os.path.realpath(__file__)))
 WRITTEN = os.path.join(TOP, "python/llrp_epc/standard.tsv")
 HEAD = "# Written by python/write_standard.py. Form, number, name in lines of JSON, fields and tail there, name in the XML of the LLRP\n"
 HEAD += "# Toolkits, fields there, and the order of parameters there.\n"
-# The enumeration of each field that has one.
-ENUMERATIONS = """\
-GET_READER_CAPABILITIES.RequestedData=GetReaderCapabilitiesRequestedData GET_READER_CONFIG.RequestedData=GetReaderConfigRequestedData
-PerAntennaAirProtocol.ProtocolID=AirProtocols InventoryParameterSpec.ProtocolID=AirProtocols AccessSpec.ProtocolID=AirProtocols
-RegulatoryCapabilities.CommunicationsStandard=CommunicationsStandard ROSpec.CurrentState=ROSpecState
-ROSpecStartTrigger.ROSpecStartTriggerType=ROSpecStartTriggerType ROSpecStopTrigger.ROSpecStopTriggerType=ROSpecStopTriggerType
-AISpecStopTrigger.AISpecStopTriggerType=AISpecStopTriggerType TagObservationTrigger.TriggerType=TagObservationTriggerType
-RFSurveySpecStopTrigger.StopTriggerType=RFSurveySpecStopTriggerType AccessSpec.CurrentState=AccessSpecState
-AccessSpecStopTrigger.AccessSpecStopTrigger=AccessSpecStopTriggerType Identification.IDType=IdentificationType
-KeepaliveSpec.KeepaliveTriggerType=KeepaliveTriggerType GPIPortCurrentState.State=GPIPortState ROReportSpec.ROReportTrigger=ROReportTriggerType
-AccessReportSpec.AccessReportTrigger=AccessReportTriggerType EventNotificationState.EventType=NotificationEventType
-ROSpecEvent.EventType=ROSpecEventType RFSurveyEvent.EventType=RFSurveyEventType AISpecEvent.EventType=AISpecEventType
-AntennaEvent.EventType=AntennaEventType ConnectionAttemptEvent.Status=ConnectionAttemptStatusType LLRPStatus.StatusCode=StatusCode
-FieldError.ErrorCode=StatusCode ParameterError.ErrorCode=StatusCode C1G2UHFRFModeTableEntry.DRValue=C1G2DRValue
-C1G2UHFRFModeTableEntry.MValue=C1G2MValue C1G2UHFRFModeTableEntry.ForwardLinkModulation=C1G2ForwardLinkModulation
-C1G2UHFRFModeTableEntry.SpectralMaskIndicator=C1G2SpectralMaskIndicator C1G2Filter.T=C1G2TruncateAction
-C1G2TagInventoryStateAwareFilterAction.Target=C1G2StateAwareTarget C1G2TagInventoryStateAwareFilterAction.Action=C1G2StateAwareAction
-C1G2TagInventoryStateUnawareFilterAction.Action=C1G2StateUnawareAction C1G2TagInventoryStateAwareSingulationAction.I=C1G2TagInventoryStateAwareI
-C1G2TagInventoryStateAwareSingulationAction.S=C1G2TagInventoryStateAwareS C1G2LockPayload.Privilege=C1G2LockPrivilege
-C1G2LockPayload.DataField=C1G2LockDataField C1G2ReadOpSpecResult.Result=C1G2ReadResultType C1G2WriteOpSpecResult.Result=C1G2WriteResultType
-C1G2KillOpSpecResult.Result=C1G2KillResultType C1G2LockOpSpecResult.Result=C1G2LockResultType
-C1G2BlockEraseOpSpecResult.Result=C1G2BlockEraseResultType C1G2BlockWriteOpSpecResult.Result=C1G2BlockWriteResultType"""
-NAMED: Dict[str, str] = dict((word.split("=")[0], word.split("=")[1]) for word in ENUMERATIONS.split())
+# The enumeration of a list; those of fields stand in crates/llrp_schema/table.tsv.
+LISTED = {"PerAntennaAirProtocol.ProtocolID": "AirProtocols"}
 # The fields whose texts are hexadecimal digits, and those whose texts are moments.
 HEX = {"Identification.ReaderID", "C1G2Write.WriteData", "C1G2BlockWrite.WriteData", "C1G2ReadOpSpecResult.ReadData", "EPC-96.EPC"}
 HEX |= {"C1G2BlockPermalock.BlockMask", "C1G2GetBlockPermalockStatusOpSpecResult.PermalockStatus"}
@@ -59,6 +38,15 @@ def rows(path: str) -> Iterator[List[str]]:
 
 def words(text: str) -> List[str]:
     return [] if text == "-" else text.split()
+
+
+def enumerations() -> Dict[str, str]:
+    """Returns the enumeration of each field that has one, by its kind and its name."""
+    fields = ((row[2], word) for row in rows("crates/llrp_schema/table.tsv") for word in words(row[4]) if ":=" in word)
+    return {**LISTED, **{f"{kind}.{word.split(':')[0]}": word.split(":=")[1] for kind, word in fields}}
+
+
+NAMED = enumerations()
 
 
 def ending(key: str) -> str:

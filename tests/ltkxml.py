@@ -263,7 +263,7 @@ def of_page(environment, folder):
 
 
 def by_tshark():
-    """Yields whether names of enumerations are tshark's words for the same numbers."""
+    """Yields whether names of enumerations are tshark's words for the same numbers, and whether the table says so of each."""
     from llrp_epc import _standard
 
     done = subprocess.run(["tshark", "-G", "values"], capture_output=True, timeout=LONGEST, check=True)
@@ -278,6 +278,11 @@ def by_tshark():
             pair = ours.get(number, ""), there.get(number, "")
             is_same = squeezed(pair[0]) == squeezed(pair[1])
             yield f"{name} {number}: {pair}", is_same or OTHERWISE.get((name, number)) == pair
+    rows = [line.split("\t") for line in text_of("crates/llrp_schema/enumerations.tsv").splitlines() if not line.startswith("#")]
+    for name, number, ours, sure in rows:
+        words = theirs[SHARK[name]].get(int(number)) if name in SHARK else None
+        wanted = "memory" if words is None else "wireshark" if squeezed(words) == squeezed(ours) else "otherwise"
+        yield f"how sure {name} {number} is: {sure}", sure == wanted
 
 
 def squeezed(text):

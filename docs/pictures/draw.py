@@ -80,6 +80,7 @@ CRATES = {
     "tag_forms": "forms of words",
     "tag_memory": "banks of tags",
     "llrp_schema": "the tables of LLRP",
+    "llrp_enumerations": "names of numbers",
     "llrp_tree": "messages, frames, faults",
     "llrp_stream": "reading streams",
     "llrp_session": "reader and client",

@@ -12,19 +12,20 @@ BITS, LETTERS = 96, 48
 
 
 class Refused(Exception):
-    """A row that cannot be right: its line, and what is wrong with it."""
+    """A row that cannot be right: its line, what is wrong with it, and its table."""
 
-    def __init__(self, line, what):
-        super().__init__(f"table.tsv, line {line}: {what}")
+    def __init__(self, line, what, table="table.tsv"):
+        super().__init__(f"{table}, line {line}: {what}")
 
 
 class Field(NamedTuple):
-    """A field. Its range is the greatest lawful value where not every value of its bits is lawful."""
+    """A field. Its range is the greatest lawful value where not every value of its bits is lawful; its enumeration has names of its numbers."""
 
     name: str
     bits: int
     range: Optional[int]
     is_signed: bool
+    enumeration: Optional[str]
 
     @property
     def is_reserved(self):
@@ -63,16 +64,16 @@ def words_of(cell):
 
 def field_of(word):
     """A field as the table writes it."""
-    form = re.fullmatch(r"([A-Z][\w-]*):(\d+)(?::0\.\.(\d+)|:(signed))?", word, re.ASCII)
+    form = re.fullmatch(r"([A-Z][\w-]*):(\d+)(?::0\.\.(\d+)|:(signed))?(?::=(\w+))?", word, re.ASCII)
     if not form:
         raise ValueError(f"{word} is no field")
-    name, bits, greatest, signed = form.groups()
-    field = Field(name, int(bits), greatest and int(greatest), bool(signed))
+    name, bits, greatest, signed, enumeration = form.groups()
+    field = Field(name, int(bits), greatest and int(greatest), bool(signed), enumeration)
     if not 1 <= field.bits <= BITS:
         raise ValueError(f"{word} does not have 1 to {BITS} bits")
     if field.range is not None and field.range >= 2**field.bits:
-        raise ValueError(f"the range of {word} does not fit its width")
-    if field.is_reserved and (greatest or signed):
+        raise ValueError(f"the range of {word.split(':=')[0]} does not fit its width")
+    if field.is_reserved and (greatest or signed or enumeration):
         raise ValueError(f"{word} is reserved and has values")
     return field
 

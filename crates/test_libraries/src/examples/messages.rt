@@ -1,6 +1,7 @@
 //! The examples of the libraries of tables and of messages.
 
 use json::Scratch;
+use llrp_enumerations::name_of;
 use llrp_explain::line_of;
 use llrp_json_read::read_line;
 use llrp_schema::{Kind, KindSet, fields, param_named};
@@ -19,6 +20,15 @@ fn llrp_schema_example(rt: HostRuntime) {
     let found = param_named("AntennaID"); // Some(ParamKind::AntennaId)
     assert_eq!(rt; width, 16);
     assert_eq!(rt; found, Some(ParamKind::AntennaId));
+}
+
+#[test]
+fn llrp_enumerations_example(rt: HostRuntime) {
+    let kind = Kind::Parameter(ParamKind::RoReportSpec);
+    let name = name_of(kind, b"Trigger", 2); // Some("Upon_N_Tags_Or_End_Of_ROSpec")
+    assert!(rt; matches!(name, Some("Upon_N_Tags_Or_End_Of_ROSpec")));
+    assert!(rt; name_of(kind, b"Trigger", 3).is_none());
+    assert!(rt; name_of(kind, b"N", 2).is_none());
 }
 
 #[test]

@@ -1,0 +1,2 @@
+-- What public contracts say that no promise of README rests on.
+pub mod Enumerations

@@ -1,0 +1,292 @@
+//! The numbers of each enumeration, with their names.
+
+ghost use Rattle.std.specs.Prelude.{◌≡◌, map};
+ghost use Rattle.llrp_enumerations.specs.Calls.Enumerations.{values_of};
+ghost use Rattle.llrp_enumerations.specs.Private.Rows.{named_value};
+
+use crate::enumeration::{Enumeration, Value};
+
+/// A number and its name.
+macro_rules! value {
+    ($number:literal, $name:literal) => {
+        Value {
+            number: $number,
+            name: $name,
+        }
+    };
+}
+
+/// The numbers of an enumeration that have names, in rising order.
+#[tactic(auto, unfolding(crate::specs::Calls::Enumerations::values_of))]
+pub(crate) fn values(enumeration: Enumeration) -> &'static [Value]
+    ensures { map named_value result.now ≡ values_of enumeration }
+{
+    match enumeration {
+        Enumeration::AirProtocols => &[value!(0, "Unspecified"), value!(1, "EPCGlobalClass1Gen2")],
+        Enumeration::GetReaderCapabilitiesRequestedData => &[
+            value!(0, "All"),
+            value!(1, "General_Device_Capabilities"),
+            value!(2, "LLRP_Capabilities"),
+            value!(3, "Regulatory_Capabilities"),
+            value!(4, "LLRP_Air_Protocol_Capabilities"),
+        ],
+        Enumeration::GetReaderConfigRequestedData => &[
+            value!(0, "All"),
+            value!(1, "Identification"),
+            value!(2, "AntennaProperties"),
+            value!(3, "AntennaConfiguration"),
+            value!(4, "ROReportSpec"),
+            value!(5, "ReaderEventNotificationSpec"),
+            value!(6, "AccessReportSpec"),
+            value!(7, "LLRPConfigurationState"),
+            value!(8, "KeepaliveSpec"),
+            value!(9, "GPIPortCurrentState"),
+            value!(10, "GPOWriteData"),
+            value!(11, "EventsAndReports"),
+        ],
+        Enumeration::CommunicationsStandard => &[
+            value!(0, "Unspecified"),
+            value!(1, "US_FCC_Part_15"),
+            value!(2, "ETSI_302_208"),
+            value!(3, "ETSI_300_220"),
+            value!(4, "Australia_LIPD_1W"),
+            value!(5, "Australia_LIPD_4W"),
+            value!(6, "Japan_ARIB_STD_T89"),
+            value!(7, "Hong_Kong_OFTA_1049"),
+            value!(8, "Taiwan_DGT_LP0002"),
+            value!(9, "Korea_MIC_Article_5_2"),
+        ],
+        Enumeration::RoSpecState => &[
+            value!(0, "Disabled"),
+            value!(1, "Inactive"),
+            value!(2, "Active"),
+        ],
+        Enumeration::RoSpecStartTriggerType => &[
+            value!(0, "Null"),
+            value!(1, "Immediate"),
+            value!(2, "Periodic"),
+            value!(3, "GPI"),
+        ],
+        Enumeration::RoSpecStopTriggerType => &[
+            value!(0, "Null"),
+            value!(1, "Duration"),
+            value!(2, "GPI_With_Timeout"),
+        ],
+        Enumeration::AiSpecStopTriggerType => &[
+            value!(0, "Null"),
+            value!(1, "Duration"),
+            value!(2, "GPI_With_Timeout"),
+            value!(3, "Tag_Observation"),
+        ],
+        Enumeration::TagObservationTriggerType => &[
+            value!(0, "Upon_Seeing_N_Tags_Or_Timeout"),
+            value!(1, "Upon_Seeing_No_More_New_Tags_For_Tms_Or_Timeout"),
+            value!(2, "N_Attempts_To_See_All_Tags_In_FOV_Or_Timeout"),
+        ],
+        Enumeration::RfSurveySpecStopTriggerType => &[
+            value!(0, "Null"),
+            value!(1, "Duration"),
+            value!(2, "N_Iterations_Through_Frequency_Range"),
+        ],
+        Enumeration::AccessSpecState => &[value!(0, "Disabled"), value!(1, "Active")],
+        Enumeration::AccessSpecStopTriggerType => &[
+            value!(0, "Null"),
+            value!(1, "Operation_Count"),
+        ],
+        Enumeration::IdentificationType => &[value!(0, "MAC_Address"), value!(1, "EPC")],
+        Enumeration::KeepaliveTriggerType => &[value!(0, "Null"), value!(1, "Periodic")],
+        Enumeration::GpiPortState => &[value!(0, "Low"), value!(1, "High"), value!(2, "Unknown")],
+        Enumeration::RoReportTriggerType => &[
+            value!(0, "None"),
+            value!(1, "Upon_N_Tags_Or_End_Of_AISpec"),
+            value!(2, "Upon_N_Tags_Or_End_Of_ROSpec"),
+        ],
+        Enumeration::AccessReportTriggerType => &[
+            value!(0, "Whenever_ROReport_Is_Generated"),
+            value!(1, "End_Of_AccessSpec"),
+        ],
+        Enumeration::NotificationEventType => &[
+            value!(0, "Upon_Hopping_To_Next_Channel"),
+            value!(1, "GPI_Event"),
+            value!(2, "ROSpec_Event"),
+            value!(3, "Report_Buffer_Fill_Warning"),
+            value!(4, "Reader_Exception_Event"),
+            value!(5, "RFSurvey_Event"),
+            value!(6, "AISpec_Event"),
+            value!(7, "AISpec_Event_With_Details"),
+            value!(8, "Antenna_Event"),
+            value!(9, "SpecLoop_Event"),
+        ],
+        Enumeration::RoSpecEventType => &[
+            value!(0, "Start_Of_ROSpec"),
+            value!(1, "End_Of_ROSpec"),
+            value!(2, "Preemption_Of_ROSpec"),
+        ],
+        Enumeration::RfSurveyEventType => &[
+            value!(0, "Start_Of_RFSurvey"),
+            value!(1, "End_Of_RFSurvey"),
+        ],
+        Enumeration::AiSpecEventType => &[value!(0, "End_Of_AISpec")],
+        Enumeration::AntennaEventType => &[
+            value!(0, "Antenna_Disconnected"),
+            value!(1, "Antenna_Connected"),
+        ],
+        Enumeration::ConnectionAttemptStatusType => &[
+            value!(0, "Success"),
+            value!(1, "Failed_A_Reader_Initiated_Connection_Already_Exists"),
+            value!(2, "Failed_A_Client_Initiated_Connection_Already_Exists"),
+            value!(3, "Failed_Reason_Other_Than_A_Connection_Already_Exists"),
+            value!(4, "Another_Connection_Attempted"),
+        ],
+        Enumeration::C1G2DrValue => &[value!(0, "DRV_8"), value!(1, "DRV_64_3")],
+        Enumeration::C1G2MValue => &[
+            value!(0, "MV_FM0"),
+            value!(1, "MV_2"),
+            value!(2, "MV_4"),
+            value!(3, "MV_8"),
+        ],
+        Enumeration::C1G2ForwardLinkModulation => &[
+            value!(0, "PR_ASK"),
+            value!(1, "SSB_ASK"),
+            value!(2, "DSB_ASK"),
+        ],
+        Enumeration::C1G2SpectralMaskIndicator => &[
+            value!(0, "Unknown"),
+            value!(1, "SI"),
+            value!(2, "MI"),
+            value!(3, "DI"),
+        ],
+        Enumeration::C1G2TruncateAction => &[
+            value!(0, "Unspecified"),
+            value!(1, "Do_Not_Truncate"),
+            value!(2, "Truncate"),
+        ],
+        Enumeration::C1G2StateAwareTarget => &[
+            value!(0, "SL"),
+            value!(1, "Inventoried_State_For_Session_S0"),
+            value!(2, "Inventoried_State_For_Session_S1"),
+            value!(3, "Inventoried_State_For_Session_S2"),
+            value!(4, "Inventoried_State_For_Session_S3"),
+        ],
+        Enumeration::C1G2StateAwareAction => &[
+            value!(0, "AssertSLOrA_DeassertSLOrB"),
+            value!(1, "AssertSLOrA_Noop"),
+            value!(2, "Noop_DeassertSLOrB"),
+            value!(3, "NegateSLOrABBA_Noop"),
+            value!(4, "DeassertSLOrB_AssertSLOrA"),
+            value!(5, "DeassertSLOrB_Noop"),
+            value!(6, "Noop_AssertSLOrA"),
+            value!(7, "Noop_NegateSLOrABBA"),
+        ],
+        Enumeration::C1G2StateUnawareAction => &[
+            value!(0, "Select_Unselect"),
+            value!(1, "Select_DoNothing"),
+            value!(2, "DoNothing_Unselect"),
+            value!(3, "Unselect_DoNothing"),
+            value!(4, "Unselect_Select"),
+            value!(5, "DoNothing_Select"),
+        ],
+        Enumeration::C1G2TagInventoryStateAwareI => &[value!(0, "State_A"), value!(1, "State_B")],
+        Enumeration::C1G2TagInventoryStateAwareS => &[value!(0, "SL"), value!(1, "Not_SL")],
+        Enumeration::C1G2LockPrivilege => &[
+            value!(0, "Read_Write"),
+            value!(1, "Perma_Lock"),
+            value!(2, "Perma_Unlock"),
+            value!(3, "Unlock"),
+        ],
+        Enumeration::C1G2LockDataField => &[
+            value!(0, "Kill_Password"),
+            value!(1, "Access_Password"),
+            value!(2, "EPC_Memory"),
+            value!(3, "TID_Memory"),
+            value!(4, "User_Memory"),
+        ],
+        Enumeration::C1G2ReadResultType => &[
+            value!(0, "Success"),
+            value!(1, "Nonspecific_Tag_Error"),
+            value!(2, "No_Response_From_Tag"),
+            value!(3, "Nonspecific_Reader_Error"),
+            value!(4, "Memory_Overrun_Error"),
+            value!(5, "Memory_Locked_Error"),
+            value!(6, "Incorrect_Password_Error"),
+        ],
+        Enumeration::C1G2WriteResultType => &[
+            value!(0, "Success"),
+            value!(1, "Tag_Memory_Overrun_Error"),
+            value!(2, "Tag_Memory_Locked_Error"),
+            value!(3, "Insufficient_Power"),
+            value!(4, "Nonspecific_Tag_Error"),
+            value!(5, "No_Response_From_Tag"),
+            value!(6, "Nonspecific_Reader_Error"),
+            value!(7, "Incorrect_Password_Error"),
+        ],
+        Enumeration::C1G2KillResultType => &[
+            value!(0, "Success"),
+            value!(1, "Zero_Kill_Password_Error"),
+            value!(2, "Insufficient_Power"),
+            value!(3, "Nonspecific_Tag_Error"),
+            value!(4, "No_Response_From_Tag"),
+            value!(5, "Nonspecific_Reader_Error"),
+            value!(6, "Incorrect_Password_Error"),
+        ],
+        Enumeration::C1G2LockResultType => &[
+            value!(0, "Success"),
+            value!(1, "Insufficient_Power"),
+            value!(2, "Nonspecific_Tag_Error"),
+            value!(3, "No_Response_From_Tag"),
+            value!(4, "Nonspecific_Reader_Error"),
+            value!(5, "Incorrect_Password_Error"),
+            value!(6, "Tag_Memory_Overrun_Error"),
+            value!(7, "Tag_Memory_Locked_Error"),
+        ],
+        Enumeration::C1G2BlockEraseResultType => &[
+            value!(0, "Success"),
+            value!(1, "Tag_Memory_Overrun_Error"),
+            value!(2, "Tag_Memory_Locked_Error"),
+            value!(3, "Insufficient_Power"),
+            value!(4, "Nonspecific_Tag_Error"),
+            value!(5, "No_Response_From_Tag"),
+            value!(6, "Nonspecific_Reader_Error"),
+            value!(7, "Incorrect_Password_Error"),
+        ],
+        Enumeration::C1G2BlockWriteResultType => &[
+            value!(0, "Success"),
+            value!(1, "Tag_Memory_Overrun_Error"),
+            value!(2, "Tag_Memory_Locked_Error"),
+            value!(3, "Insufficient_Power"),
+            value!(4, "Nonspecific_Tag_Error"),
+            value!(5, "No_Response_From_Tag"),
+            value!(6, "Nonspecific_Reader_Error"),
+            value!(7, "Incorrect_Password_Error"),
+        ],
+        Enumeration::StatusCode => &[
+            value!(0, "M_Success"),
+            value!(100, "M_ParameterError"),
+            value!(101, "M_FieldError"),
+            value!(102, "M_UnexpectedParameter"),
+            value!(103, "M_MissingParameter"),
+            value!(104, "M_DuplicateParameter"),
+            value!(105, "M_OverflowParameter"),
+            value!(106, "M_OverflowField"),
+            value!(107, "M_UnknownParameter"),
+            value!(108, "M_UnknownField"),
+            value!(109, "M_UnsupportedMessage"),
+            value!(110, "M_UnsupportedVersion"),
+            value!(111, "M_UnsupportedParameter"),
+            value!(112, "M_UnexpectedMessage"),
+            value!(200, "P_ParameterError"),
+            value!(201, "P_FieldError"),
+            value!(202, "P_UnexpectedParameter"),
+            value!(203, "P_MissingParameter"),
+            value!(204, "P_DuplicateParameter"),
+            value!(205, "P_OverflowParameter"),
+            value!(206, "P_OverflowField"),
+            value!(207, "P_UnknownParameter"),
+            value!(208, "P_UnknownField"),
+            value!(209, "P_UnsupportedParameter"),
+            value!(300, "A_Invalid"),
+            value!(301, "A_OutOfRange"),
+            value!(401, "R_DeviceError"),
+        ],
+    }
+}
