@@ -44,7 +44,7 @@ def value_of(field):
 def words_of(field):
     """Returns a field's name with what stands there: of many bits hexadecimal digits, and of many octets the first."""
     if field["width"] <= 64 and "value" in field:
-        return f"{field['name']} {field['value']}"
+        return " ".join([field["name"], str(field["value"]), *([field["reading"]] if "reading" in field else [])])
     digits = f"{value_of(field):0{field['width'] // 4}X}"
     return f"{field['name']} x{digits[:24]}" + (".." if len(digits) > 24 else "")
 

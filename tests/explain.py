@@ -14,9 +14,9 @@ import sys
 import time
 
 from parts.counting import finish_results
-from parts.repository import program_given
+from parts.repository import TOP, program_given
 
-LEAST = 210
+LEAST = 241
 # How long the next piece of an input waits for the one before it to be read, in seconds.
 REST = 0.005
 # Lines of 21 octets in 50 MB, and the most memory that reading them may take, in kilobytes.
@@ -27,21 +27,37 @@ COLUMNS = "BIT WIDTH LEVEL FIELD VALUE"
 DEEP = "0464 00000092 00000009 011F 0088 0000 0000" + "".join(f"0121 {8 * level:04X} 0000 0000" for level in range(16, 0, -1))
 
 
-def long_head(bit, level, kind, *octets):
-    """Returns the lines of the head of a parameter with a length, which begins at this bit: up to its type, or with the length."""
+def names_of(*forms):
+    """Returns the names of the messages or parameters of LLRP 1.1 by their numbers, of a table that was written from the standard by itself."""
+    with open(os.path.join(TOP, "tests/llrp11.tsv"), encoding="utf-8") as lines:
+        rows = [line.split("\t") for line in lines if line.strip() and line[0] != "#"]
+    return {int(number): name for form, number, name, *_ in rows if form.lower() in forms}
+
+
+KINDS, PARAMETERS = names_of("message"), names_of("tv", "tlv")
+
+
+def refused_head(bit, level, kind, *octets):
+    """Returns the lines of the head of a parameter with a length, which begins at this bit: up to its type, or with the length. It is refused."""
     fields = ((0, 6, "reserved", 0), (6, 10, "ParameterType", kind), *((16, 16, "ParameterLength", count) for count in octets))
     return [f"{bit + place} {width} {level} {name} {number}" for place, width, name, number in fields]
+
+
+def long_head(bit, level, kind, octets):
+    """Returns the same of one that is read, whose type has its name after a tab."""
+    first, number, length = refused_head(bit, level, kind, octets)
+    return [first, f"{number}\t{PARAMETERS[kind]}", length]
 
 
 def nested(bit, level, count):
     """Returns the lines of this many ParameterErrors, each in the one before."""
     if count == 0:
         return []
-    fields = [f"{bit + 32} 16 {level} ParameterType 0", f"{bit + 48} 16 {level} ErrorCode 0"]
+    fields = [f"{bit + 32} 16 {level} ParameterType 0", f"{bit + 48} 16 {level} ErrorCode 0\tM_Success"]
     return long_head(bit, level, 289, 8 * (count + 1)) + fields + nested(bit + 64, level + 1, count - 1)
 
 
-STATUS = [*long_head(80, 1, 287, 8), "112 16 1 StatusCode 0"]
+STATUS = [*long_head(80, 1, 287, 8), "112 16 1 StatusCode 0\tM_Success"]
 # A frame; the numbers of its header, if that passes its checks: reserved, version, type, length, id; the lines after them; the lines of what is
 # refused; the reason of its first fault, its bit, and its octet.
 FAULTS = [
@@ -54,14 +70,14 @@ FAULTS = [
     ("0414 00000014 00000001 00B1 000A 00000001 08 00", (0, 1, 20, 20, 1), [*long_head(80, 1, 177, 10), "112 32 1 ROSpecID 1"],
         ["144 8 1 Priority 8"], "Value", 144, 18),
     ("041E 00000012 00000001 011F 0008 0000 0005", (0, 1, 30, 18, 1), STATUS, ["128 16 1 count 5"], "Count", 128, 16),
-    ("041E 00000013 00000001 011F 0009 0000 0001 FF", (0, 1, 30, 19, 1), [*long_head(80, 1, 287, 9), "112 16 1 StatusCode 0"], [], "Utf8", 144, 18),
-    ("041E 0000000E 00000001 0005 0004", (0, 1, 30, 14, 1), [], long_head(80, 1, 5), "ParamType", 86, 10),
-    ("041E 0000000E 00000001 00B1 0004", (0, 1, 30, 14, 1), [], long_head(80, 1, 177), "Misplaced", 80, 10),
+    ("041E 00000013 00000001 011F 0009 0000 0001 FF", (0, 1, 30, 19, 1), [*long_head(80, 1, 287, 9), "112 16 1 StatusCode 0\tM_Success"], [], "Utf8", 144, 18),
+    ("041E 0000000E 00000001 0005 0004", (0, 1, 30, 14, 1), [], refused_head(80, 1, 5), "ParamType", 86, 10),
+    ("041E 0000000E 00000001 00B1 0004", (0, 1, 30, 14, 1), [], refused_head(80, 1, 177), "Misplaced", 80, 10),
     ("041E 0000001A 00000001 011F 0008 0000 0000 011F 0008 0000 0000", (0, 1, 30, 26, 1), [*STATUS, "128 16 1 count 0"],
-        long_head(144, 1, 287), "TooMany", 144, 18),
-    (DEEP, (0, 1, 100, 146, 9), [*long_head(80, 1, 287, 136), "112 16 1 StatusCode 0", "128 16 1 count 0", *nested(144, 2, 15)],
-        long_head(1104, 17, 289), "TooDeep", 1104, 138),
-    ("041E 0000000E 00000001 011F 0003", (0, 1, 30, 14, 1), [], long_head(80, 1, 287, 3), "ParamLength", 96, 12),
+        refused_head(144, 1, 287), "TooMany", 144, 18),
+    (DEEP, (0, 1, 100, 146, 9), [*long_head(80, 1, 287, 136), "112 16 1 StatusCode 0\tM_Success", "128 16 1 count 0", *nested(144, 2, 15)],
+        refused_head(1104, 17, 289), "TooDeep", 1104, 138),
+    ("041E 0000000E 00000001 011F 0003", (0, 1, 30, 14, 1), [], refused_head(80, 1, 287, 3), "ParamLength", 96, 12),
     ("043E 0000000B 00000007 00", (0, 1, 62, 11, 7), [], [], "Extra", 80, 10),
     ("041E 0000000A 00000001", (0, 1, 30, 10, 1), [], [], "Missing", 80, 10),
 ]
@@ -70,20 +86,35 @@ MESSAGES = [
     ("083E 0000000A 00000007", (0, 2, 62, 10, 7), []),
     # a report of a tag with type and value alone, EPC-96
     ("043D 0000001B 00000001 00F0 0011 8D 3074257BF7194E4000001A85", (0, 1, 61, 27, 1), [
-        "80 6 1 reserved 0", "86 10 1 ParameterType 240", "96 16 1 ParameterLength 17",
-        "112 1 2 type and value 1", "113 7 2 ParameterType 13", f"120 96 2 EPC-96 {0x3074257BF7194E4000001A85}"]),
+        "80 6 1 reserved 0", "86 10 1 ParameterType 240\tTagReportData", "96 16 1 ParameterLength 17",
+        "112 1 2 type and value 1", "113 7 2 ParameterType 13\tEPC-96", f"120 96 2 EPC-96 {0x3074257BF7194E4000001A85}"]),
     # bits: EPCData of 20 bits in three octets
     ("043D 00000017 00000001 00F0 000D 00F1 0009 0014 ABCDE0", (0, 1, 61, 23, 1), [
-        "80 6 1 reserved 0", "86 10 1 ParameterType 240", "96 16 1 ParameterLength 13",
-        "112 6 2 reserved 0", "118 10 2 ParameterType 241", "128 16 2 ParameterLength 9", "144 16 2 BitCount 20", "160 24 2 bits xabcde0"]),
+        "80 6 1 reserved 0", "86 10 1 ParameterType 240\tTagReportData", "96 16 1 ParameterLength 13",
+        "112 6 2 reserved 0", "118 10 2 ParameterType 241\tEPCData", "128 16 2 ParameterLength 9", "144 16 2 BitCount 20", "160 24 2 bits xabcde0"]),
     # text, and a parameter in a parameter
     ("041E 0000001C 00000001 011F 0012 0064 0002 6F6B 0121 0008 00B1 0065", (0, 1, 30, 28, 1), [
-        "80 6 1 reserved 0", "86 10 1 ParameterType 287", "96 16 1 ParameterLength 18", "112 16 1 StatusCode 100",
-        "128 16 1 count 2", "144 16 1 text x6f6b",
-        "160 6 2 reserved 0", "166 10 2 ParameterType 289", "176 16 2 ParameterLength 8", "192 16 2 ParameterType 177", "208 16 2 ErrorCode 101"]),
+        "80 6 1 reserved 0", "86 10 1 ParameterType 287\tLLRPStatus", "96 16 1 ParameterLength 18", "112 16 1 StatusCode 100\tM_ParameterError",
+        "128 16 1 count 2", "144 16 1 text x6f6b", "160 6 2 reserved 0", "166 10 2 ParameterType 289\tParameterError",
+        "176 16 2 ParameterLength 8", "192 16 2 ParameterType 177", "208 16 2 ErrorCode 101\tM_FieldError"]),
+    # signed numbers of 8 bits: -128, -1, 0 and 127; and a status of no name
+    *((f"043D 0000001D 00000001 00F0 0013 8D 3074257BF7194E4000001A85 86 {octet}", (0, 1, 61, 29, 1), [
+        "80 6 1 reserved 0", "86 10 1 ParameterType 240\tTagReportData", "96 16 1 ParameterLength 19",
+        "112 1 2 type and value 1", "113 7 2 ParameterType 13\tEPC-96", f"120 96 2 EPC-96 {0x3074257BF7194E4000001A85}",
+        "216 1 2 type and value 1", "217 7 2 ParameterType 6\tPeakRSSI", f"224 8 2 PeakRSSI {number}"])
+      for octet, number in (("80", -128), ("FF", -1), ("00", 0), ("7F", 127))),
+    ("041E 00000012 00000001 011F 0008 FFFF 0000", (0, 1, 30, 18, 1), [
+        "80 6 1 reserved 0", "86 10 1 ParameterType 287\tLLRPStatus", "96 16 1 ParameterLength 8", "112 16 1 StatusCode 65535", "128 16 1 count 0"]),
 ]
-# The same, of the whole standard.
+# The same, of the profile, and of the whole standard, which calls some fields otherwise.
+PERIODIC = "0403 00000014 00000001 00 00DC 0009 01 00002710"
+PERIODIC_LINES = ["80 1 0 ResetToFactoryDefault 0", "81 7 0 R 0", *long_head(88, 1, 220, 9)]
+PROFILE = [
+    # a trigger by its name
+    (PERIODIC, (0, 1, 3, 20, 1), [*PERIODIC_LINES, "120 8 1 Type 1\tPeriodic", "128 32 1 Period 10000"]),
+]
 WHOLE = [
+    (PERIODIC, (0, 1, 3, 20, 1), [*PERIODIC_LINES, "120 8 1 KeepaliveTriggerType 1\tPeriodic", "128 32 1 PeriodicTriggerValue 10000"]),
     # data after the fields of a message
     ("07FF 00000011 00000001 00001234 05 AABB", (0, 1, 1023, 17, 1), [
         "80 32 0 VendorIdentifier 4660", "112 8 0 MessageSubtype 5", "120 16 0 octets xaabb"]),
@@ -136,7 +167,8 @@ def run(program, given, *flags):
 def head(numbers):
     """Returns the lines of a header."""
     fields = ((0, 3, "reserved"), (3, 3, "Version"), (6, 10, "MessageType"), (16, 32, "MessageLength"), (48, 32, "MessageID"))
-    return [f"{bit} {width} 0 {name} {number}" for (bit, width, name), number in zip(fields, numbers)]
+    readings = ("", "", f"\t{KINDS[numbers[2]]}", "", "")
+    return [f"{bit} {width} 0 {name} {number}{reading}" for (bit, width, name), number, reading in zip(fields, numbers, readings)]
 
 
 def text(index, frame, lines):
@@ -153,9 +185,11 @@ def is_fault(written, frame, numbers, lines, refused, reason, bit, octet):
 
 def field(line, refused=False):
     """Returns the object of a field's line."""
-    bit, width, level, *name, what = line.split(" ")
+    columns, _, reading = line.partition("\t")
+    bit, width, level, *name, what = columns.split(" ")
     value = {"hex": what[1:]} if what[0] == "x" else {"value": int(what)}
-    return {"bit": int(bit), "width": int(width), "name": " ".join(name), "level": int(level), **value, **({"refused": True} if refused else {})}
+    ends = {**({"reading": reading} if reading else {}), **({"refused": True} if refused else {})}
+    return {"bit": int(bit), "width": int(width), "name": " ".join(name), "level": int(level), **value, **ends}
 
 
 def told(line):
@@ -181,7 +215,7 @@ def json_results(program):
         fields = [field(line) for line in (head(numbers) + lines if numbers else [])] + [field(line, True) for line in refused]
         fault = {"bit": bit, "octet": octet, "reason": reason, "text": words}
         yield f"{reason} --json", (status, out, error) == (1, line_of(1, frame, fields, fault), b"") and words != ""
-    for rows, flags in ((MESSAGES, ()), (WHOLE, ("--all",))):
+    for rows, flags in ((MESSAGES, ()), (PROFILE, ()), (WHOLE, ("--all",))):
         for digits, numbers, lines in rows:
             frame = bytes.fromhex(digits)
             wanted = line_of(1, frame, [field(line) for line in head(numbers) + lines])
@@ -310,7 +344,7 @@ def results(program):
         for flags in ((), ("--all",)):
             status, out, error = run(program, frame, *flags, *limit)
             yield f"{reason} {flags}", status == 1 and error == b"" and is_fault(out, frame, numbers, lines, refused, reason, bit, octet)
-    for rows, sets in ((MESSAGES, ((), ("--all",))), (WHOLE, (("--all",),))):
+    for rows, sets in ((MESSAGES, ((), ("--all",))), (PROFILE, ((),)), (WHOLE, (("--all",),))):
         for digits, numbers, lines in rows:
             frame = bytes.fromhex(digits)
             wanted = (0, text(1, frame, head(numbers) + lines), b"")

@@ -59,9 +59,10 @@ class Part(NamedTuple):
 
 
 def field_of(line):
-    bit, width, level, *name, value = line.split(" ")
+    bit, width, level, *name, value = line.split("\t")[0].split(" ")
     is_octets = value[0] == "x"
-    return Field(int(bit), int(width), int(level), " ".join(name), int(value[1:], 16) if is_octets else int(value), is_octets)
+    # (a negative number is that of its bits in two's complement)
+    return Field(int(bit), int(width), int(level), " ".join(name), int(value[1:], 16) if is_octets else int(value) % 2 ** int(width), is_octets)
 
 
 def head_at(fields, at):

@@ -268,7 +268,7 @@ SEEN: Message = {"id": 1, "parameters": [TAG], "version": 1, "message": "RO_ACCE
 
 # The fields of the header of KEEPALIVE, which has no others (LLRP 1.1, section 16), and of the frame with reserved bits those up to these.
 COLUMNS = "BIT WIDTH LEVEL FIELD VALUE\n"
-EXPLAINED = f"frame 1, 10 octets\n{COLUMNS}0 3 0 reserved 0\n3 3 0 Version 2\n6 10 0 MessageType 62\n16 32 0 MessageLength 10\n48 32 0 MessageID 7\n"
+EXPLAINED = f"frame 1, 10 octets\n{COLUMNS}0 3 0 reserved 0\n3 3 0 Version 2\n6 10 0 MessageType 62\tKEEPALIVE\n16 32 0 MessageLength 10\n48 32 0 MessageID 7\n"
 REFUSED = f"frame 1, 10 octets\n{COLUMNS}then, refused:\n0 3 0 reserved 1\nfault at bit 0, octet 0: Reserved: 3 bits are 1, not 0\n"
 
 

@@ -1,6 +1,6 @@
 -- The text of a frame of which a printer received what there is.
 use Rattle.std.specs.Prelude.{codes, decimal}
-use Rattle.std.proofs.Common.{◌≡◌, ◌⊎◌, inl, inr, ℕ, zero, suc, ◌+◌, ◌*◌, ◌/◌, ◌%◌, ◌<◌, ◌≤◌, List, [], ◌∷◌, ◌++◌, length, take, drop, Bool, true, false, ◌&&◌, Option, Some, refl, sym, ap, subst, ◌∙◌, arith, append_assoc}
+use Rattle.std.proofs.Common.{None, ◌≡◌, ◌⊎◌, inl, inr, ℕ, zero, suc, ◌+◌, ◌*◌, ◌/◌, ◌%◌, ◌<◌, ◌≤◌, List, [], ◌∷◌, ◌++◌, length, take, drop, Bool, true, false, ◌&&◌, Option, Some, refl, sym, ap, subst, ◌∙◌, arith, append_assoc}
 use Rattle.std.proofs.lemmas.List.{append-nil}
 use Rattle.tag_bits.specs.Digits.{digits_of_bytes}
 use Rattle.tag_bits.proofs.ByteLemmas.{bytes-append, length-bytes}
@@ -24,7 +24,7 @@ use Rattle.llrp_stream.proofs.Reached.{seen}
 use Rattle.llrp_explain.specs.declared.form.Form.{Form}
 use Rattle.llrp_explain.specs.declared.printer.FramePrinter.{FramePrinter}
 use Rattle.llrp_explain.specs.Calls.ExplainLines.{bits_of_lines, open_lines, message_lines}
-use Rattle.llrp_explain.specs.Calls.ExplainText.{lines_text, fault_place}
+use Rattle.llrp_explain.specs.Calls.ExplainText.{lines_text, readings_text, fault_place}
 use Rattle.llrp_explain.specs.Calls.FaultLines.{IsFaultTree, NamedBits, header_fields, refused_lines, taken_lines}
 use Rattle.llrp_explain.specs.Calls.HeaderFaults.{header_sentence, refused_text, set_words}
 use Rattle.llrp_explain.specs.Calls.Explained.{IsExplained, fault_text, in_form, is_asked, written_if}
@@ -119,11 +119,11 @@ module _ (p : KindSet) (limit : ℕ) (frame : List ℕ) (fault : Fault) (printer
   in_body (b ∷ outer) handed f (inl h) of_header kept = absurd (let z : b ∷ outer ≡ [] = h.0 in cc)
   in_body (b ∷ outer) handed f (inr b2) of_header kept = (b2, f.1, f.2 kept)
 
-  tree_text : (tree : List Begun) (old new : List ℕ) (rest : List Bool) → next_fault tree rest ≡ Some (fault.bit, fault.reason) → new ≡ (old ++ lines_text 0 (open_lines tree)) ++ refusal_text tree fault.bit fault.reason rest
+  tree_text : (tree : List Begun) (old new : List ℕ) (rest : List Bool) → next_fault tree rest ≡ Some (fault.bit, fault.reason) → new ≡ (old ++ readings_text None 0 (open_lines tree)) ++ refusal_text tree fault.bit fault.reason rest
       → new ≡ old ++ fault_text p limit tree fault.bit fault.reason rest
   unfolding fault_text
   tree_text [] old new rest e t = no_tree rest fault.bit fault.reason e
-  tree_text (b ∷ outer) old new rest e t = t ∙ append_assoc old (lines_text 0 (open_lines (b ∷ outer))) (refusal_text (b ∷ outer) fault.bit fault.reason rest)
+  tree_text (b ∷ outer) old new rest e t = t ∙ append_assoc old (readings_text None 0 (open_lines (b ∷ outer))) (refusal_text (b ∷ outer) fault.bit fault.reason rest)
 
   -- an open tree covers fewer bits than a frame may have
   covered_few : (tree : List Begun) (at : ℕ) → IsAt (digits_of_bytes frame) tree at → length frame ≤ limit → limit ≤ 1048576 → length (covers tree) ≤ 8388608
@@ -132,7 +132,7 @@ module _ (p : KindSet) (limit : ℕ) (frame : List ℕ) (fault : Fault) (printer
       let within = st.within in
       omega (arith, long, within, length-bytes frame, le, small)
 
-  lines_are : (tree : List Begun) → length (covers tree) ≤ 8388608 → Holds [] (open_lines tree) printer.lines → printer.lines.text.items ≡ lines_text 0 (open_lines tree)
+  lines_are : (tree : List Begun) → length (covers tree) ≤ 8388608 → Holds [] (open_lines tree) printer.lines → printer.lines.text.items ≡ readings_text None 0 (open_lines tree)
   unfolding Holds
   lines_are tree few h =
       let bits : bits_of_lines (open_lines tree) ≡ length (covers tree) = bits_are (open_lines tree) ∙ ap (λ (ds : List Bool). length ds) (open_is tree) in
@@ -158,11 +158,11 @@ module _ (p : KindSet) (limit : ℕ) (frame : List ℕ) (fault : Fault) (printer
       let few = covered_few is.tree fails.at fails.stands le small in
       let lines = lines_are is.tree few holds in
       let refused : printer.refused.items ≡ refusal_text is.tree fault.bit fault.reason rest = f.2 is.tree rest is.is fails.stands.is_open (omega (arith, few)) (are_handed is.tree r.0 fails.at r.1 fails.stands r.3.after whole is.is) fails.fails in
-      (is.tree, fails.at, inr (fails.stands, fails.fails), tree_text is.tree old new rest fails.fails (b ∙ ap (λ (x : List ℕ). x ++ printer.refused.items) (a ∙ ap (λ (x : List ℕ). old ++ x) lines) ∙ ap (λ (x : List ℕ). (old ++ lines_text 0 (open_lines is.tree)) ++ x) refused))
+      (is.tree, fails.at, inr (fails.stands, fails.fails), tree_text is.tree old new rest fails.fails (b ∙ ap (λ (x : List ℕ). x ++ printer.refused.items) (a ∙ ap (λ (x : List ℕ). old ++ x) lines) ∙ ap (λ (x : List ℕ). (old ++ readings_text None 0 (open_lines is.tree)) ++ x) refused))
 
 -- ---- a frame that ends
 
-message_lines_are : (m : MessageTree) (frame : List ℕ) (limit : ℕ) (p : KindSet) (printer : FramePrinter) → FrameIn p m frame limit → limit ≤ 1048576 → Ends printer m → printer.lines.text.items ≡ lines_text 0 (message_lines m)
+message_lines_are : (m : MessageTree) (frame : List ℕ) (limit : ℕ) (p : KindSet) (printer : FramePrinter) → FrameIn p m frame limit → limit ≤ 1048576 → Ends printer m → printer.lines.text.items ≡ readings_text None 0 (message_lines m)
 unfolding Holds
 message_lines_are m frame limit p printer f small h =
     let bits = frame_bits m frame limit f.frame in

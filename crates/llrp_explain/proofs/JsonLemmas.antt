@@ -8,7 +8,7 @@ use Rattle.std.proofs.lemmas.List.Splits.{slice_split_first, slice_split_none}
 use Rattle.std.proofs.lemmas.Bool.{ltb-true, ltb-false}
 use Rattle.std.proofs.lemmas.Grind.{flat_map-append}
 use Rattle.memchr.specs.Find.{NoneAfter, NoneBefore, Nowhere, Passes, is_byte}
-use Rattle.llrp_explain.specs.Calls.ExplainJson.{fault_json, field_end, field_json, first_word, frame_json, is_colon, is_comma, is_space, json_string, kind_of_line, line_json, lines_json, lines_of, other_words, separator, standing_json, string_octet}
+use Rattle.llrp_explain.specs.Calls.ExplainJson.{columns_json, fault_json, field_json, first_word, frame_json, is_colon, is_comma, is_space, json_string, kind_of_line, line_json, lines_json, lines_of, other_words, separator, standing_json, string_octet}
 use Rattle.llrp_explain.specs.declared.json.LineKind.{LineKind}
 use Rattle.llrp_explain.specs.declared.json.LineKind.TheVariants.{Field, Heading, Fault, Other}
 
@@ -89,24 +89,24 @@ on_ok (Err x) P Q h f = tt
 
 -- ---- a field
 
-abbrev object : (bit width name level value : List ℕ) → Bool → List ℕ
-object bit width name level value refused = codes "{\"bit\":" ++ (bit ++ (codes ",\"width\":" ++ (width ++ (codes ",\"name\":" ++ (json_string name ++ (codes ",\"level\":" ++ (level ++ (codes "," ++ (standing_json value ++ field_end refused)))))))))
+abbrev object : (bit width name level value : List ℕ) → List ℕ
+object bit width name level value = codes "{\"bit\":" ++ (bit ++ (codes ",\"width\":" ++ (width ++ (codes ",\"name\":" ++ (json_string name ++ (codes ",\"level\":" ++ (level ++ (codes "," ++ standing_json value))))))))
 
-field_joined : (j a b c d e f g h i k l : List ℕ) → ((((((j ++ (a ++ b)) ++ (c ++ d)) ++ (e ++ f)) ++ (g ++ h)) ++ i) ++ k) ++ l ≡ j ++ (a ++ (b ++ (c ++ (d ++ (e ++ (f ++ (g ++ (h ++ (i ++ (k ++ l))))))))))
-field_joined j a b c d e f g h i k l = simp append_assoc
+field_joined : (j a b c d e f g h i k : List ℕ) → (((((j ++ (a ++ b)) ++ (c ++ d)) ++ (e ++ f)) ++ (g ++ h)) ++ i) ++ k ≡ j ++ (a ++ (b ++ (c ++ (d ++ (e ++ (f ++ (g ++ (h ++ (i ++ k)))))))))
+field_joined j a b c d e f g h i k = simp append_assoc
 
-pub field_text : (j0 j1 j2 j3 j4 j5 j6 j7 line bit after_bit width after_width level after_level name value : List ℕ) (refused : Bool) → bit ≡ first_word line → after_bit ≡ other_words line → width ≡ first_word after_bit → after_width ≡ other_words after_bit → level ≡ first_word after_width → after_level ≡ other_words after_width → name ≡ before_last is_space after_level → value ≡ after_last is_space after_level
-    → j1 ≡ j0 ++ (codes "{\"bit\":" ++ bit) → j2 ≡ j1 ++ (codes ",\"width\":" ++ width) → j3 ≡ j2 ++ (codes ",\"name\":" ++ json_string name) → j4 ≡ j3 ++ (codes ",\"level\":" ++ level) → j5 ≡ j4 ++ codes "," → j6 ≡ j5 ++ standing_json value → j7 ≡ j6 ++ field_end refused → j7 ≡ j0 ++ field_json refused line
-unfolding field_json
-field_text j0 j1 j2 j3 j4 j5 j6 j7 line bit after_bit width after_width level after_level name value refused b ab w aw l al n v e1 e2 e3 e4 e5 e6 e7 =
-    let parts : j7 ≡ j0 ++ object bit width name level value refused = rw (e7, e6, e5, e4, e3, e2, e1) (field_joined j0 (codes "{\"bit\":") bit (codes ",\"width\":") width (codes ",\"name\":") (json_string name) (codes ",\"level\":") level (codes ",") (standing_json value) (field_end refused)) in
+pub field_text : (j0 j1 j2 j3 j4 j5 j6 line bit after_bit width after_width level after_level name value : List ℕ) → bit ≡ first_word line → after_bit ≡ other_words line → width ≡ first_word after_bit → after_width ≡ other_words after_bit → level ≡ first_word after_width → after_level ≡ other_words after_width → name ≡ before_last is_space after_level → value ≡ after_last is_space after_level
+    → j1 ≡ j0 ++ (codes "{\"bit\":" ++ bit) → j2 ≡ j1 ++ (codes ",\"width\":" ++ width) → j3 ≡ j2 ++ (codes ",\"name\":" ++ json_string name) → j4 ≡ j3 ++ (codes ",\"level\":" ++ level) → j5 ≡ j4 ++ codes "," → j6 ≡ j5 ++ standing_json value → j6 ≡ j0 ++ columns_json line
+unfolding columns_json
+field_text j0 j1 j2 j3 j4 j5 j6 line bit after_bit width after_width level after_level name value b ab w aw l al n v e1 e2 e3 e4 e5 e6 =
+    let parts : j6 ≡ j0 ++ object bit width name level value = rw (e6, e5, e4, e3, e2, e1) (field_joined j0 (codes "{\"bit\":") bit (codes ",\"width\":") width (codes ",\"name\":") (json_string name) (codes ",\"level\":") level (codes ",") (standing_json value)) in
     let aw2 : after_width ≡ other_words (other_words line) = aw ∙ ap other_words ab in
     let al2 : after_level ≡ other_words (other_words (other_words line)) = al ∙ ap other_words aw2 in
     let w2 : width ≡ first_word (other_words line) = w ∙ ap first_word ab in
     let l2 : level ≡ first_word (other_words (other_words line)) = l ∙ ap first_word aw2 in
     let n2 : name ≡ before_last is_space (other_words (other_words (other_words line))) = n ∙ ap (λ (x : List ℕ). before_last is_space x) al2 in
     let v2 : value ≡ after_last is_space (other_words (other_words (other_words line))) = v ∙ ap (λ (x : List ℕ). after_last is_space x) al2 in
-    parts ∙ (λ k. j0 ++ object (b k) (w2 k) (n2 k) (l2 k) (v2 k) refused)
+    parts ∙ (λ k. j0 ++ object (b k) (w2 k) (n2 k) (l2 k) (v2 k))
 
 -- ---- a fault
 

@@ -16,3 +16,4 @@ pub mod RefusedParts
 pub mod RefusedTexts
 pub mod TextFaults
 pub mod WalkLemmas
+pub mod NumberLemmas

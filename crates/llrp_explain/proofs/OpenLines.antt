@@ -5,6 +5,7 @@ use Rattle.std.proofs.lemmas.List.{append-nil}
 use Rattle.std.proofs.lemmas.Bool.{leb-true}
 use Rattle.llrp_schema.specs.declared.kinds.MsgKind.{MsgKind}
 use Rattle.llrp_schema.specs.declared.kinds.ParamKind.{ParamKind}
+use Rattle.llrp_schema.specs.declared.kinds.Kind.{Kind}
 use Rattle.llrp_schema.specs.declared.kinds.Kind.TheVariants.{Message, Parameter}
 use Rattle.llrp_schema.specs.declared.kinds.Tail.{Tail}
 use Rattle.llrp_schema.specs.declared.kinds.Tail.TheVariants.{Absent, Words, Text, Bits, Data}
@@ -21,37 +22,39 @@ use Rattle.llrp_tree.proofs.WholeNodes.{closed_digits, no_field_due}
 use Rattle.llrp_stream.specs.Calls.Received.{with_child, with_closed, with_value, IsReady, IsMessageOf}
 use Rattle.llrp_explain.specs.declared.lines.Lines.{Lines}
 use Rattle.llrp_explain.specs.Calls.ExplainLines.{ExplainLine, line, bits_of_lines, head_lines, field_lines, tail_lines, forest_lines, message_lines, read_lines, begun_lines, open_lines}
-use Rattle.llrp_explain.specs.Calls.ExplainText.{lines_text}
+use Rattle.llrp_explain.specs.Calls.ExplainText.{kind_after, readings_text}
 use Rattle.llrp_explain.specs.Calls.Printed.{Holds}
 use Rattle.llrp_explain.specs.Private.Trees.{tree_lines}
-use Rattle.llrp_explain.proofs.PrintedLemmas.{text_append, bits_append}
+use Rattle.llrp_explain.proofs.PrintedLemmas.{text_append, kind_append, bits_append}
 
 -- ---- lines with the same text
 
--- they have as many bits, and the same text from each bit on
+-- they have as many bits, the same text from each bit on after each head, and the same kind after them
 abbrev pub SameText : List ExplainLine → List ExplainLine → Type 0
-SameText a b = (bits_of_lines a ≡ bits_of_lines b) × ((n : ℕ) → lines_text n a ≡ lines_text n b)
+SameText a b = (bits_of_lines a ≡ bits_of_lines b) × ((k : Option Kind) (n : ℕ) → readings_text k n a ≡ readings_text k n b) × ((k : Option Kind) → kind_after k a ≡ kind_after k b)
 
 pub holds_same : (was : List ℕ) (a b : List ExplainLine) (x : Lines) → SameText a b → Holds was a x → Holds was b x
 unfolding Holds
 holds_same was a b x s h small =
     let bits = s.0 in
     let old = h (omega (arith, bits, small)) in
-    (old.0 ∙ ap (λ (t : List ℕ). was ++ t) (s.1 0), old.1 ∙ bits)
+    (old.0 ∙ ap (λ (t : List ℕ). was ++ t) (s.1 None 0), old.1 ∙ bits, old.2 ∙ s.2 None)
 
 same_refl : (a : List ExplainLine) → SameText a a
-same_refl a = (refl, λ n. refl)
+same_refl a = (refl, λ k n. refl, λ k. refl)
 
 same_equal : (a b : List ExplainLine) → a ≡ b → SameText a b
 same_equal a b e = subst (λ (x : List ExplainLine). SameText a x) e (same_refl a)
 
 same_then : (a b c : List ExplainLine) → SameText a b → SameText b c → SameText a c
-same_then a b c f g = (f.0 ∙ g.0, λ n. f.1 n ∙ g.1 n)
+same_then a b c f g = (f.0 ∙ g.0, λ k n. f.1 k n ∙ g.1 k n, λ k. f.2 k ∙ g.2 k)
 
 same_append : (a b c d : List ExplainLine) → SameText a b → SameText c d → SameText (a ++ c) (b ++ d)
 same_append a b c d f g = (
   bits_append a c ∙ (let x = f.0 in let y = g.0 in let z : bits_of_lines a + bits_of_lines c ≡ bits_of_lines b + bits_of_lines d = omega arith in z) ∙ sym (bits_append b d),
-  λ n. text_append n a c ∙ ap (λ (t : List ℕ). t ++ lines_text (n + bits_of_lines a) c) (f.1 n) ∙ ap (λ (t : List ℕ). lines_text n b ++ t) (ap (λ (m : ℕ). lines_text (n + m) c) (f.0) ∙ g.1 (n + bits_of_lines b)) ∙ sym (text_append n b d),
+  λ k n. text_append k n a c ∙ ap (λ (t : List ℕ). t ++ readings_text (kind_after k a) (n + bits_of_lines a) c) (f.1 k n)
+      ∙ ap (λ (t : List ℕ). readings_text k n b ++ t) (ap (λ (m : ℕ). readings_text (kind_after k a) (n + m) c) (f.0) ∙ ap (λ (j : Option Kind). readings_text j (n + bits_of_lines b) c) (f.2 k) ∙ g.1 (kind_after k b) (n + bits_of_lines b)) ∙ sym (text_append k n b d),
+  λ k. kind_append k a c ∙ ap (λ (j : Option Kind). kind_after j c) (f.2 k) ∙ g.2 (kind_after k b) ∙ sym (kind_append k b d),
 )
 
 -- ---- a node that begins
@@ -141,8 +144,8 @@ spread_again b outer s d = spread-plain (rules b) b.fields s.0.fields (all_due b
 
 -- an empty tail has no text
 read_same : (level : ℕ) (f : Tail) (tail : Option (List ℕ)) → tail_due f tail ≡ Rest → SameText (read_lines level f tail) (tail_lines level f (unwrap_or tail []))
-unfolding tail_lines lines_text bits_of_lines
-read_same level Absent None e = (refl, λ n. refl)
+unfolding tail_lines readings_text kind_after bits_of_lines
+read_same level Absent None e = (refl, λ k n. refl, λ k. refl)
 read_same level Words None e = absurd cc
 read_same level Text None e = absurd cc
 read_same level Bits None e = absurd cc

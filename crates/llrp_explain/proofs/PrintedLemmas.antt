@@ -1,12 +1,13 @@
 -- How the text of lines grows.
-use Rattle.std.proofs.Common.{◌≡◌, ℕ, ◌+◌, ◌<◌, List, [], ◌∷◌, ◌++◌, length, take, get_or, true, false, nat_eq, refl, sym, ap, subst, ◌∙◌, arith, append_assoc}
-use Rattle.std.specs.Prelude.{Result, Ok, Err, OnOk, cond, is_ok, if◌then◌else◌}
+use Rattle.std.proofs.Common.{◌≡◌, ℕ, ◌+◌, ◌<◌, List, [], ◌∷◌, ◌++◌, length, take, get_or, ◌*◌, true, false, nat_eq, refl, sym, ap, subst, ◌∙◌, arith, append_assoc}
+use Rattle.std.specs.Prelude.{Option, None, Some, Result, Ok, Err, OnOk, cond, is_ok, if◌then◌else◌}
+use Rattle.llrp_schema.specs.declared.kinds.Kind.{Kind}
 use Rattle.std.proofs.lemmas.List.{append-nil, take_more}
 use Rattle.std.proofs.lemmas.Bool.{eqb-true}
 use Rattle.hex.specs.Hex.{encode_with, encode_lower, lower_digits}
 use Rattle.llrp_explain.specs.declared.lines.Lines.{Lines}
-use Rattle.llrp_explain.specs.Calls.ExplainLines.{ExplainLine, bits_of_lines, standing_bits}
-use Rattle.llrp_explain.specs.Calls.ExplainText.{line_text, lines_text}
+use Rattle.llrp_explain.specs.Calls.ExplainLines.{ExplainLine, octets_line, bits_of_lines, standing_bits}
+use Rattle.llrp_explain.specs.Calls.ExplainText.{kind_after, kind_after_line, line_text, lines_text, read_text, readings_text, words_text}
 use Rattle.llrp_explain.specs.Calls.Printed.{Holds, Adds}
 
 encode_more : (t xs ys : List ℕ) → encode_with t (xs ++ ys) ≡ encode_with t xs ++ encode_with t ys
@@ -43,26 +44,48 @@ zero_of n e = eqb-true n 0 e
 pub some_of : (n : ℕ) → 0 < n → nat_eq n 0 ≡ false
 some_of n h = elim (nat_eq n 0) as (λ b. nat_eq n 0 ≡ b → b ≡ false) [ true ↦ λ e. absurd (omega (arith, h, eqb-true n 0 e)) | false ↦ λ e. refl ] refl
 
-pub text_append : (n : ℕ) (xs ys : List ExplainLine) → lines_text n (xs ++ ys) ≡ lines_text n xs ++ lines_text (n + bits_of_lines xs) ys
-unfolding lines_text bits_of_lines
-text_append n [] ys = ap (λ (m : ℕ). lines_text m ys) (let z : n ≡ n + 0 = omega arith in z)
-text_append n (x ∷ xs) ys =
-    elim (nat_eq (bits x) 0) as (λ b. nat_eq (bits x) 0 ≡ b → cond b (lines_text n (xs ++ ys)) (line_text n x ++ lines_text (n + bits x) (xs ++ ys)) ≡ cond b (lines_text n xs) (line_text n x ++ lines_text (n + bits x) xs) ++ lines_text (n + (bits x + bits_of_lines xs)) ys) [
-      | true ↦ λ z. text_append n xs ys ∙ ap (λ (m : ℕ). lines_text n xs ++ lines_text m ys) (let z2 = zero_of (bits x) z in let z3 : n + bits_of_lines xs ≡ n + (bits x + bits_of_lines xs) = omega arith in z3)
-      | false ↦ λ z. ap (λ (t : List ℕ). line_text n x ++ t) (text_append (n + bits x) xs ys ∙ ap (λ (m : ℕ). lines_text (n + bits x) xs ++ lines_text m ys) (let z3 : n + bits x + bits_of_lines xs ≡ n + (bits x + bits_of_lines xs) = omega arith in z3)) ∙ sym (append_assoc (line_text n x) (lines_text (n + bits x) xs) (lines_text (n + (bits x + bits_of_lines xs)) ys))
+pub text_append : (k : Option Kind) (n : ℕ) (xs ys : List ExplainLine) → readings_text k n (xs ++ ys) ≡ readings_text k n xs ++ readings_text (kind_after k xs) (n + bits_of_lines xs) ys
+unfolding readings_text kind_after bits_of_lines
+text_append k n [] ys = ap (λ (m : ℕ). readings_text k m ys) (let z : n ≡ n + 0 = omega arith in z)
+text_append k n (x ∷ xs) ys =
+    elim (nat_eq (bits x) 0) as (λ b. nat_eq (bits x) 0 ≡ b → cond b (readings_text k n (xs ++ ys)) (read_text k n x ++ readings_text (kind_after_line k x) (n + bits x) (xs ++ ys)) ≡ cond b (readings_text k n xs) (read_text k n x ++ readings_text (kind_after_line k x) (n + bits x) xs) ++ readings_text (kind_after (cond b k (kind_after_line k x)) xs) (n + (bits x + bits_of_lines xs)) ys) [
+      | true ↦ λ z. text_append k n xs ys ∙ ap (λ (m : ℕ). readings_text k n xs ++ readings_text (kind_after k xs) m ys) (let z2 = zero_of (bits x) z in let z3 : n + bits_of_lines xs ≡ n + (bits x + bits_of_lines xs) = omega arith in z3)
+      | false ↦ λ z. ap (λ (t : List ℕ). read_text k n x ++ t) (text_append (kind_after_line k x) (n + bits x) xs ys ∙ ap (λ (m : ℕ). readings_text (kind_after_line k x) (n + bits x) xs ++ readings_text (kind_after (kind_after_line k x) xs) m ys) (let z3 : n + bits x + bits_of_lines xs ≡ n + (bits x + bits_of_lines xs) = omega arith in z3)) ∙ sym (append_assoc (read_text k n x) (readings_text (kind_after_line k x) (n + bits x) xs) (readings_text (kind_after (kind_after_line k x) xs) (n + (bits x + bits_of_lines xs)) ys))
     ] refl
+
+pub kind_append : (k : Option Kind) (xs ys : List ExplainLine) → kind_after k (xs ++ ys) ≡ kind_after (kind_after k xs) ys
+unfolding kind_after
+kind_append k [] ys = refl
+kind_append k (x ∷ xs) ys = kind_append (cond (nat_eq (bits x) 0) k (kind_after_line k x)) xs ys
+
+read_one : (k : Option Kind) (n : ℕ) (l : ExplainLine) → nat_eq (bits l) 0 ≡ false → readings_text k n (l ∷ []) ≡ read_text k n l
+unfolding readings_text
+read_one k n l e = rw e (append-nil (read_text k n l))
+
+read_none : (k : Option Kind) (n : ℕ) (l : ExplainLine) → bits l ≡ 0 → readings_text k n (l ∷ []) ≡ []
+unfolding readings_text
+read_none k n l e = rw e refl
+
+kind_one : (k : Option Kind) (l : ExplainLine) → nat_eq (bits l) 0 ≡ false → kind_after k (l ∷ []) ≡ kind_after_line k l
+unfolding kind_after
+kind_one k l e = rw e refl
+
+kind_none : (k : Option Kind) (l : ExplainLine) → bits l ≡ 0 → kind_after k (l ∷ []) ≡ k
+unfolding kind_after
+kind_none k l e = rw e refl
 
 pub one_text : (n : ℕ) (l : ExplainLine) → nat_eq (bits l) 0 ≡ false → lines_text n (l ∷ []) ≡ line_text n l
 unfolding lines_text
 one_text n l e = rw e (append-nil (line_text n l))
 
-no_text : (n : ℕ) (l : ExplainLine) → bits l ≡ 0 → lines_text n (l ∷ []) ≡ []
-unfolding lines_text
-no_text n l e = rw e refl
-
 one_bits : (l : ExplainLine) → bits_of_lines (l ∷ []) ≡ bits l
 unfolding bits_of_lines
 one_bits l = (let z : bits l + 0 ≡ bits l = omega arith in z)
+
+-- octets have no reading
+pub octets_read : (k : Option Kind) (bit level : ℕ) (name os : List ℕ) → line_text bit (octets_line level name os) ≡ read_text k bit (octets_line level name os)
+octets_read None bit level name os = ap (λ (w : List ℕ). words_text bit (8 * length os) level name w) (sym (append-nil (120 ∷ encode_lower os)))
+octets_read (Some j) bit level name os = ap (λ (w : List ℕ). words_text bit (8 * length os) level name w) (sym (append-nil (120 ∷ encode_lower os)))
 
 -- ---- what is added
 
@@ -78,23 +101,25 @@ adds_empty l x e was lines h small =
     let b = bits_append lines (l ∷ []) in
     let one = one_bits l in
     let old = h (omega arith) in (
-      old.0 ∙ ap (λ (t : List ℕ). was ++ t) (sym (text_append 0 lines (l ∷ []) ∙ ap (λ (t : List ℕ). lines_text 0 lines ++ t) (no_text (0 + bits_of_lines lines) l e) ∙ append-nil (lines_text 0 lines))),
+      old.0 ∙ ap (λ (t : List ℕ). was ++ t) (sym (text_append None 0 lines (l ∷ []) ∙ ap (λ (t : List ℕ). readings_text None 0 lines ++ t) (read_none (kind_after None lines) (0 + bits_of_lines lines) l e) ∙ append-nil (readings_text None 0 lines))),
       old.1 ∙ (let z : bits_of_lines lines ≡ bits_of_lines (lines ++ l ∷ []) = omega arith in z),
+      old.2 ∙ sym (kind_append None lines (l ∷ []) ∙ kind_none (kind_after None lines) l e),
     )
 
-pub adds_line : (l : ExplainLine) (x y : Lines) → 0 < standing_bits l.bits l.standing → y.text.items ≡ x.text.items ++ line_text x.bit l → (x.bit + standing_bits l.bits l.standing < 4294967296 → y.bit ≡ x.bit + standing_bits l.bits l.standing)
-    → Adds (l ∷ []) x y
+pub adds_line : (l : ExplainLine) (x y : Lines) → 0 < standing_bits l.bits l.standing → y.text.items ≡ x.text.items ++ read_text x.kind x.bit l → (x.bit + standing_bits l.bits l.standing < 4294967296 → y.bit ≡ x.bit + standing_bits l.bits l.standing)
+    → y.kind ≡ kind_after_line x.kind l → Adds (l ∷ []) x y
 unfolding Holds
-adds_line l x y some t after was lines h small =
+adds_line l x y some t after kind was lines h small =
     let b = bits_append lines (l ∷ []) in
     let one = one_bits l in
     let old = h (omega arith) in
     let at = old.1 in
     let ne : nat_eq (bits l) 0 ≡ false = some_of (bits l) some in
-    let text : lines_text 0 (lines ++ l ∷ []) ≡ lines_text 0 lines ++ line_text x.bit l =
-    text_append 0 lines (l ∷ []) ∙ ap (λ (u : List ℕ). lines_text 0 lines ++ u) (one_text (0 + bits_of_lines lines) l ne ∙ ap (λ (n : ℕ). line_text n l) (let z : 0 + bits_of_lines lines ≡ x.bit = omega (arith, at) in z)) in (
-      t ∙ ap (λ (u : List ℕ). u ++ line_text x.bit l) old.0 ∙ append_assoc was (lines_text 0 lines) (line_text x.bit l) ∙ ap (λ (u : List ℕ). was ++ u) (sym text),
+    let text : readings_text None 0 (lines ++ l ∷ []) ≡ readings_text None 0 lines ++ read_text x.kind x.bit l =
+    text_append None 0 lines (l ∷ []) ∙ ap (λ (u : List ℕ). readings_text None 0 lines ++ u) (read_one (kind_after None lines) (0 + bits_of_lines lines) l ne ∙ ap (λ (n : ℕ). read_text (kind_after None lines) n l) (let z : 0 + bits_of_lines lines ≡ x.bit = omega (arith, at) in z) ∙ ap (λ (k : Option Kind). read_text k x.bit l) (sym old.2)) in (
+      t ∙ ap (λ (u : List ℕ). u ++ read_text x.kind x.bit l) old.0 ∙ append_assoc was (readings_text None 0 lines) (read_text x.kind x.bit l) ∙ ap (λ (u : List ℕ). was ++ u) (sym text),
       after (omega arith) ∙ (let z : x.bit + bits l ≡ bits_of_lines (lines ++ l ∷ []) = omega arith in z),
+      kind ∙ ap (λ (k : Option Kind). kind_after_line k l) old.2 ∙ sym (kind_append None lines (l ∷ []) ∙ kind_one (kind_after None lines) l ne),
     )
 
 -- what follows from what holds of a result that is Ok

@@ -24,7 +24,7 @@ use Rattle.llrp_stream.specs.Calls.Reading.{IsDueAt, IsStopped, MayFailFor, Told
 use Rattle.llrp_explain.specs.declared.lines.Lines.{Lines}
 use Rattle.llrp_explain.specs.declared.printer.FramePrinter.{FramePrinter}
 use Rattle.llrp_explain.specs.Calls.ExplainLines.{ExplainLine, line, bits_of_lines, head_lines, field_lines, tail_lines, forest_lines, open_lines}
-use Rattle.llrp_explain.specs.Calls.ExplainText.{lines_text}
+use Rattle.llrp_explain.specs.Calls.ExplainText.{kind_after, readings_text}
 use Rattle.llrp_explain.specs.Calls.Printed.{Holds, Adds}
 use Rattle.llrp_explain.specs.Private.Trees.{tree_lines}
 use Rattle.llrp_explain.specs.Calls.FaultSentences.{refusal_text}
@@ -36,13 +36,13 @@ use Rattle.llrp_explain.proofs.PrintedLemmas.{bits_append, adds_then, on_adds, m
 
 -- ---- a message begins
 
-fresh : (x : Lines) → x.text.items ≡ [] → x.bit ≡ 0 → Holds [] [] x
-unfolding Holds lines_text bits_of_lines
-fresh x t b small = (t, b)
+fresh : (x : Lines) → x.text.items ≡ [] → x.bit ≡ 0 → x.kind ≡ None → Holds [] [] x
+unfolding Holds readings_text kind_after bits_of_lines
+fresh x t b k small = (t, b, k)
 
-pub message_begun : (v n id stop : ℕ) (k : MsgKind) (x y : Lines) → x.text.items ≡ [] → x.bit ≡ 0 → Adds (head_lines 0 (message v k n id)) x y → Holds [] (open_lines (leading (message v k n id) stop [] ∷ [])) y
+pub message_begun : (v n id stop : ℕ) (k : MsgKind) (x y : Lines) → x.text.items ≡ [] → x.bit ≡ 0 → x.kind ≡ None → Adds (head_lines 0 (message v k n id)) x y → Holds [] (open_lines (leading (message v k n id) stop [] ∷ [])) y
 unfolding open_lines
-message_begun v n id stop k x y t b a = subst (λ (ls : List ExplainLine). Holds [] ls y) (sym (begun_lead (message v k n id) stop [])) (a [] [] (fresh x t b))
+message_begun v n id stop k x y t b j a = subst (λ (ls : List ExplainLine). Holds [] ls y) (sym (begun_lead (message v k n id) stop [])) (a [] [] (fresh x t b j))
 
 -- ---- a parameter begins
 
@@ -91,7 +91,7 @@ long_begun h k stop level octets b outer x y holds deep e s f is a small =
     let at : x.bit ≡ length (covers t) = (holds few).1 ∙ open_bits t in
     let head = long_head h k stop octets x.bit b outer e (head_in h (8 * stop) t s) f at is in
     let same : open_lines t ++ head_lines level (tlv k octets) ≡ open_lines (leading h (8 * stop) [] ∷ t) = ap (λ (n : ℕ). open_lines t ++ head_lines n (tlv k octets)) (sym deep) ∙ ap (λ (j : Head). open_lines t ++ head_lines (length t) j) head ∙ sym lead in
-    subst (λ (ls : List ExplainLine). bits_of_lines ls < 4294967296 → (y.text.items ≡ [] ++ lines_text 0 ls) × (y.bit ≡ bits_of_lines ls)) same (a [] (open_lines t) holds) small
+    subst (λ (ls : List ExplainLine). bits_of_lines ls < 4294967296 → (y.text.items ≡ [] ++ readings_text None 0 ls) × (y.bit ≡ bits_of_lines ls) × (y.kind ≡ kind_after None ls)) same (a [] (open_lines t) holds) small
 
 -- ---- fields and tails
 

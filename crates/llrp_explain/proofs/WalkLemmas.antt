@@ -9,51 +9,46 @@ use Rattle.llrp_schema.specs.declared.kinds.Tail.TheVariants.{Absent, Words, Tex
 use Rattle.llrp_schema.specs.declared.kinds.Field.{Field}
 use Rattle.llrp_schema.specs.Calls.Schema.{field_rule}
 use Rattle.std.proofs.lemmas.List.{take_all}
-use Rattle.llrp_schema.specs.Schema.{FieldRule, fields_of, tail_of, number_of}
+use Rattle.llrp_schema.specs.Schema.{FieldRule, fields_of, tail_of}
 use Rattle.llrp_tree.specs.Tree.{Forest, Tree, MessageTree, add, forest, trees}
 use Rattle.llrp_tree.specs.Lawful.{levels, first, others, tree_octets, message_octets}
 use Rattle.llrp_tree.specs.Spelling.{message, tlv, tv, head_of, spread}
 use Rattle.llrp_tree.proofs.TreeLemmas.{forest-trees, forest-take_more}
 use Rattle.llrp_tree.proofs.SpelledLemmas.{levels_of_first, levels_of_others}
 use Rattle.llrp_explain.specs.declared.lines.Lines.{Lines}
-use Rattle.llrp_explain.specs.Calls.ExplainLines.{ExplainLine, line, octets_line, head_lines, field_lines, tail_lines, forest_lines, message_lines}
+use Rattle.llrp_explain.specs.Calls.ExplainLines.{ExplainLine, line, kind_line, octets_line, head_lines, field_lines, tail_lines, forest_lines, message_lines}
 use Rattle.llrp_explain.specs.Calls.Printed.{Adds}
 use Rattle.llrp_explain.specs.Private.Trees.{tree_lines}
 use Rattle.llrp_explain.proofs.PrintedLemmas.{adds_none, adds_then, on_adds, moved}
 
 -- ---- heads
 
-pub message_added : {T E : Type 0} (r : Result T E) (v n octets id : ℕ) (k : MsgKind) (x0 x1 x2 x3 x4 x5 : Lines) → n ≡ number_of (Message k)
-    → Adds (line 0 (codes "reserved") 3 0 ∷ []) x0 x1 → Adds (line 0 (codes "Version") 3 v ∷ []) x1 x2 → Adds (line 0 (codes "MessageType") 10 n ∷ []) x2 x3 → Adds (line 0 (codes "MessageLength") 32 octets ∷ []) x3 x4
+pub message_added : {T E : Type 0} (r : Result T E) (v octets id : ℕ) (k : MsgKind) (x0 x1 x2 x3 x4 x5 : Lines)
+    → Adds (line 0 (codes "reserved") 3 0 ∷ []) x0 x1 → Adds (line 0 (codes "Version") 3 v ∷ []) x1 x2 → Adds (kind_line 0 (codes "MessageType") 10 (Message k) ∷ []) x2 x3 → Adds (line 0 (codes "MessageLength") 32 octets ∷ []) x3 x4
     → OnOk r (Adds (line 0 (codes "MessageID") 32 id ∷ []) x4 x5) → OnOk r (Adds (head_lines 0 (message v k octets id)) x0 x5)
 unfolding head_lines
-message_added r v n octets id k x0 x1 x2 x3 x4 x5 e a b c d f =
+message_added r v octets id k x0 x1 x2 x3 x4 x5 a b c d f =
     let l1 : ExplainLine = line 0 (codes "reserved") 3 0 in
     let l2 : ExplainLine = line 0 (codes "Version") 3 v in
-    let l3 : ExplainLine = line 0 (codes "MessageType") 10 n in
+    let l3 : ExplainLine = kind_line 0 (codes "MessageType") 10 (Message k) in
     let l4 : ExplainLine = line 0 (codes "MessageLength") 32 octets in
     let l5 : ExplainLine = line 0 (codes "MessageID") 32 id in
-    moved r (l1 ∷ l2 ∷ l3 ∷ l4 ∷ l5 ∷ []) _ x0 x5 (ap (λ (m : ℕ). l1 ∷ l2 ∷ line 0 (codes "MessageType") 10 m ∷ l4 ∷ l5 ∷ []) e)
-    (on_adds r (l1 ∷ l2 ∷ l3 ∷ l4 ∷ []) (l5 ∷ []) x0 x4 x5 (adds_then (l1 ∷ l2 ∷ l3 ∷ []) (l4 ∷ []) x0 x3 x4 (adds_then (l1 ∷ l2 ∷ []) (l3 ∷ []) x0 x2 x3 (adds_then (l1 ∷ []) (l2 ∷ []) x0 x1 x2 a b) c) d) f)
+    on_adds r (l1 ∷ l2 ∷ l3 ∷ l4 ∷ []) (l5 ∷ []) x0 x4 x5 (adds_then (l1 ∷ l2 ∷ l3 ∷ []) (l4 ∷ []) x0 x3 x4 (adds_then (l1 ∷ l2 ∷ []) (l3 ∷ []) x0 x2 x3 (adds_then (l1 ∷ []) (l2 ∷ []) x0 x1 x2 a b) c) d) f
 
-pub long_added : {T E : Type 0} (r : Result T E) (level n octets : ℕ) (k : ParamKind) (x0 x1 x2 x3 : Lines) → n ≡ number_of (Parameter k)
-    → Adds (line level (codes "reserved") 6 0 ∷ []) x0 x1 → Adds (line level (codes "ParameterType") 10 n ∷ []) x1 x2
+pub long_added : {T E : Type 0} (r : Result T E) (level octets : ℕ) (k : ParamKind) (x0 x1 x2 x3 : Lines)
+    → Adds (line level (codes "reserved") 6 0 ∷ []) x0 x1 → Adds (kind_line level (codes "ParameterType") 10 (Parameter k) ∷ []) x1 x2
     → OnOk r (Adds (line level (codes "ParameterLength") 16 octets ∷ []) x2 x3) → OnOk r (Adds (head_lines level (tlv k octets)) x0 x3)
 unfolding head_lines
-long_added r level n octets k x0 x1 x2 x3 e a b f =
+long_added r level octets k x0 x1 x2 x3 a b f =
     let l1 : ExplainLine = line level (codes "reserved") 6 0 in
-    let l2 : ExplainLine = line level (codes "ParameterType") 10 n in
+    let l2 : ExplainLine = kind_line level (codes "ParameterType") 10 (Parameter k) in
     let l3 : ExplainLine = line level (codes "ParameterLength") 16 octets in
-    moved r (l1 ∷ l2 ∷ l3 ∷ []) _ x0 x3 (ap (λ (m : ℕ). l1 ∷ line level (codes "ParameterType") 10 m ∷ l3 ∷ []) e)
-    (on_adds r (l1 ∷ l2 ∷ []) (l3 ∷ []) x0 x2 x3 (adds_then (l1 ∷ []) (l2 ∷ []) x0 x1 x2 a b) f)
+    on_adds r (l1 ∷ l2 ∷ []) (l3 ∷ []) x0 x2 x3 (adds_then (l1 ∷ []) (l2 ∷ []) x0 x1 x2 a b) f
 
-pub short_added : {T E : Type 0} (r : Result T E) (level n : ℕ) (k : ParamKind) (x0 x1 x2 : Lines) → n ≡ number_of (Parameter k)
-    → Adds (line level (codes "type and value") 1 1 ∷ []) x0 x1 → OnOk r (Adds (line level (codes "ParameterType") 7 n ∷ []) x1 x2) → OnOk r (Adds (head_lines level (tv k)) x0 x2)
+pub short_added : {T E : Type 0} (r : Result T E) (level : ℕ) (k : ParamKind) (x0 x1 x2 : Lines)
+    → Adds (line level (codes "type and value") 1 1 ∷ []) x0 x1 → OnOk r (Adds (kind_line level (codes "ParameterType") 7 (Parameter k) ∷ []) x1 x2) → OnOk r (Adds (head_lines level (tv k)) x0 x2)
 unfolding head_lines
-short_added r level n k x0 x1 x2 e a f =
-    let l1 : ExplainLine = line level (codes "type and value") 1 1 in
-    let l2 : ExplainLine = line level (codes "ParameterType") 7 n in
-    moved r (l1 ∷ l2 ∷ []) _ x0 x2 (ap (λ (m : ℕ). l1 ∷ line level (codes "ParameterType") 7 m ∷ []) e) (on_adds r (l1 ∷ []) (l2 ∷ []) x0 x1 x2 a f)
+short_added r level k x0 x1 x2 a f = on_adds r (line level (codes "type and value") 1 1 ∷ []) (kind_line level (codes "ParameterType") 7 (Parameter k) ∷ []) x0 x1 x2 a f
 
 -- ---- fields
 

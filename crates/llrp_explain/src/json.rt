@@ -3,7 +3,7 @@
 ghost use Rattle.std.specs.Prelude.{◌≡◌, ◌++◌, ◌==◌, Bool, ℕ, List, codes, drop, flat_map, IfOk, OnOk, true, false};
 ghost use Rattle.std.specs.List.{after_first, after_last, before_first, before_last};
 ghost use Rattle.llrp_explain.specs.Private.JsonLines.{after_line};
-ghost use Rattle.llrp_explain.specs.Calls.ExplainJson.{fault_json, field_end, field_json, frame_json, is_plain, json_string, kind_of_line, line_json, lines_json, lines_of, separator, standing_json, string_octet};
+ghost use Rattle.llrp_explain.specs.Calls.ExplainJson.{columns_json, fault_json, field_end, field_json, frame_json, is_plain, json_string, kind_of_line, line_json, lines_json, lines_of, reading_json, separator, standing_json, string_octet};
 
 use crate::push::{push_digits, push_hexadecimal};
 use memchr::{memchr, memrchr};
@@ -143,11 +143,21 @@ fn push_field_end(json: &mut Vec<u8>, refused: bool) -> Result<(), AllocError>
     }
 }
 
-/// Appends the object of a field's line.
-fn push_field(json: &mut Vec<u8>, refused: bool, line: &[u8]) -> Result<(), AllocError>
-    ensures { OnOk result (json.new.items ≡ json.old.items ++ field_json refused line.now) }
+/// Appends the reading of a field's number, if it has one.
+fn push_reading(json: &mut Vec<u8>, reading: &[u8]) -> Result<(), AllocError>
+    ensures { OnOk result (json.new.items ≡ json.old.items ++ reading_json reading.now) }
 {
-    let (bit, after_bit) = cut(line, b' ');
+    if reading.is_empty() {
+        return Ok(());
+    }
+    push_named_string(json, b",\"reading\":", reading)
+}
+
+/// Appends the members of the columns of a field's line.
+fn push_columns(json: &mut Vec<u8>, columns: &[u8]) -> Result<(), AllocError>
+    ensures { OnOk result (json.new.items ≡ json.old.items ++ columns_json columns.now) }
+{
+    let (bit, after_bit) = cut(columns, b' ');
     let (width, after_width) = cut(after_bit, b' ');
     let (level, after_level) = cut(after_width, b' ');
     let (name, value) = cut_last(after_level, b' ');
@@ -156,7 +166,17 @@ fn push_field(json: &mut Vec<u8>, refused: bool, line: &[u8]) -> Result<(), Allo
     push_named_string(json, b",\"name\":", name)?;
     push_named(json, b",\"level\":", level)?;
     json.extend_from_slice(b",")?;
-    push_standing(json, value)?;
+    push_standing(json, value)
+}
+
+/// Appends the object of a field's line.
+#[tactic(auto, unfolding(crate::specs::Calls::ExplainJson::field_json))]
+fn push_field(json: &mut Vec<u8>, refused: bool, line: &[u8]) -> Result<(), AllocError>
+    ensures { OnOk result (json.new.items ≡ json.old.items ++ field_json refused line.now) }
+{
+    let (columns, reading) = cut(line, b'\t');
+    push_columns(json, columns)?;
+    push_reading(json, reading)?;
     push_field_end(json, refused)
 }
 

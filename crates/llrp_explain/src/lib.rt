@@ -22,6 +22,7 @@ mod missing;
 mod nearest;
 mod printer;
 pub mod push;
+mod readings;
 mod refusals;
 mod refused;
 mod rows;

@@ -1,12 +1,14 @@
 //! Lines of a frame, appended one after another.
 
-ghost use Rattle.std.specs.Prelude.{◌≡◌, ◌+◌, ◌<◌, ◌≤◌, ◌++◌, ◌∷◌, [], OnOk, decimal};
+ghost use Rattle.std.specs.Prelude.{◌≡◌, ◌+◌, ◌<◌, ◌≤◌, ◌++◌, ◌∷◌, [], None, OnOk, decimal};
 ghost use Rattle.hex.specs.Hex.{encode_lower};
-ghost use Rattle.llrp_explain.specs.Calls.ExplainLines.{line, octets_line};
+ghost use Rattle.llrp_explain.specs.Calls.ExplainLines.{kind_line, line, octets_line};
 ghost use Rattle.llrp_explain.specs.Calls.ExplainText.{words_text};
 ghost use Rattle.llrp_explain.specs.Calls.Printed.{Adds};
 
-use crate::push::{push_line, push_octets_line};
+use crate::push::push_octets_line;
+use crate::readings::{push_kind_line, push_read_line};
+use llrp_schema::Kind;
 use std::alloc::{AllocError, Global};
 
 /// A text, and after it the lines of a frame so far.
@@ -15,6 +17,8 @@ pub struct Lines {
     pub(crate) text: Vec<u8>,
     /// The bit of the frame at which the next line begins.
     pub(crate) bit: u32,
+    /// The kind of the last head, whose fields come next.
+    pub(crate) kind: Option<Kind>,
 }
 
 /// The bit after this many bits more.
@@ -31,11 +35,24 @@ impl Lines {
     pub fn new(alloc: Global) -> Lines
         ensures text { result.text.items ≡ [] }
         ensures bit { result.bit ≡ 0 }
+        ensures kind { result.kind ≡ None }
     {
         Lines {
             text: Vec::new(alloc),
             bit: 0,
+            kind: None,
         }
+    }
+
+    /// Drops the text, for the lines of another frame.
+    pub(crate) fn begin(&mut self)
+        ensures text { self.new.text.items ≡ [] }
+        ensures bit { self.new.bit ≡ 0 }
+        ensures kind { self.new.kind ≡ None }
+    {
+        self.text.clear();
+        self.bit = 0;
+        self.kind = None;
     }
 
     /// Appends the line of a number.
@@ -51,8 +68,33 @@ impl Lines {
         if width == 0 {
             return Ok(());
         }
-        push_line(&mut self.text, self.bit, width, level, name, value)?;
+        push_read_line(
+            &mut self.text,
+            self.kind,
+            self.bit,
+            width,
+            level,
+            name,
+            value,
+        )?;
         self.bit = bit_after(self.bit, width as u128);
+        Ok(())
+    }
+
+    /// Appends the line of the type in a head, which is the number of a kind. The fields of that come next.
+    pub(crate) fn kind_number(
+        &mut self,
+        level: u8,
+        name: &[u8],
+        width: u32,
+        kind: Kind,
+    ) -> Result<(), AllocError>
+        requires { 0 < width }
+        ensures { OnOk result (Adds (kind_line level name.now width kind ∷ []) self.old self.new) }
+    {
+        push_kind_line(&mut self.text, self.bit, width, level, name, kind)?;
+        self.bit = bit_after(self.bit, width as u128);
+        self.kind = Some(kind);
         Ok(())
     }
 

@@ -138,8 +138,7 @@ impl Listener for FramePrinter {
         octets: u32,
         id: u32,
     ) -> Result<(), AllocError> {
-        self.lines.text.clear();
-        self.lines.bit = 0;
+        self.lines.begin();
         self.depth = 1;
         self.form = None;
         push_header(&mut self.lines, version, kind, octets, id)

@@ -6,7 +6,7 @@ ghost use Rattle.llrp_schema.specs.Schema.{number_of};
 ghost use Rattle.llrp_schema.specs.declared.kinds.Kind.TheVariants.{Message};
 ghost use Rattle.llrp_explain.specs.Calls.ExplainLines.{line, octets_line};
 ghost use Rattle.hex.specs.Hex.{encode_lower};
-ghost use Rattle.llrp_explain.specs.Calls.ExplainText.{line_text, words_text};
+ghost use Rattle.llrp_explain.specs.Calls.ExplainText.{columns_text, line_text, words_text};
 
 use itoa::Buffer;
 use llrp_schema::Field;
@@ -26,6 +26,24 @@ fn push_number(text: &mut Vec<u8>, number: u128, end: u8) -> Result<(), AllocErr
 {
     push_digits(text, number)?;
     text.extend_from_slice(&[end])
+}
+
+/// Appends the columns before what stands in a field.
+pub fn push_columns(
+    text: &mut Vec<u8>,
+    bit: u32,
+    width: u32,
+    level: u8,
+    name: &[u8],
+) -> Result<(), AllocError>
+    ensures { OnOk result (text.new.items ≡ text.old.items
+        ++ columns_text bit width level name.now) }
+{
+    push_number(text, bit as u128, b' ')?;
+    push_number(text, width as u128, b' ')?;
+    push_number(text, level as u128, b' ')?;
+    text.extend_from_slice(name)?;
+    text.extend_from_slice(b" ")
 }
 
 /// Appends the line of a number.

@@ -11,7 +11,7 @@ ghost use Rattle.llrp_explain.specs.Calls.Printed.{Adds};
 ghost use Rattle.llrp_explain.specs.Private.Trees.{tree_lines};
 
 use crate::lines::Lines;
-use llrp_schema::{Field, Kind, MsgKind, ParamKind, Tail, fields, is_tv, number, tail};
+use llrp_schema::{Field, Kind, MsgKind, ParamKind, Tail, fields, is_tv, tail};
 use llrp_tree::{Message, Node};
 use std::alloc::AllocError;
 
@@ -26,10 +26,9 @@ pub(crate) fn push_header(
     ensures { OnOk result (Adds (head_lines 0 (message version kind octets id))
         lines.old lines.new) }
 {
-    let type_number = number(Kind::Message(kind));
     lines.number(0, b"reserved", 3, 0)?;
     lines.number(0, b"Version", 3, version as u128)?;
-    lines.number(0, b"MessageType", 10, type_number as u128)?;
+    lines.kind_number(0, b"MessageType", 10, Kind::Message(kind))?;
     lines.number(0, b"MessageLength", 32, octets as u128)?;
     lines.number(0, b"MessageID", 32, id as u128)
 }
@@ -42,9 +41,8 @@ pub(crate) fn push_short_head(
 ) -> Result<(), AllocError>
     ensures { OnOk result (Adds (head_lines level (tv kind)) lines.old lines.new) }
 {
-    let type_number = number(Kind::Parameter(kind));
     lines.number(level, b"type and value", 1, 1)?;
-    lines.number(level, b"ParameterType", 7, type_number as u128)
+    lines.kind_number(level, b"ParameterType", 7, Kind::Parameter(kind))
 }
 
 /// Appends the lines of the head of a parameter with type, length and value.
@@ -56,9 +54,8 @@ pub(crate) fn push_long_head(
 ) -> Result<(), AllocError>
     ensures { OnOk result (Adds (head_lines level (tlv kind octets)) lines.old lines.new) }
 {
-    let type_number = number(Kind::Parameter(kind));
     lines.number(level, b"reserved", 6, 0)?;
-    lines.number(level, b"ParameterType", 10, type_number as u128)?;
+    lines.kind_number(level, b"ParameterType", 10, Kind::Parameter(kind))?;
     lines.number(level, b"ParameterLength", 16, octets as u128)
 }
 

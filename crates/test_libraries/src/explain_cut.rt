@@ -33,7 +33,7 @@ const PARTS: [&[u8]; 3] = [
 BIT WIDTH LEVEL FIELD VALUE
 0 3 0 reserved 0
 3 3 0 Version 2
-6 10 0 MessageType 62
+6 10 0 MessageType 62\tKEEPALIVE
 16 32 0 MessageLength 10
 48 32 0 MessageID 7
 ",
@@ -41,7 +41,7 @@ BIT WIDTH LEVEL FIELD VALUE
 BIT WIDTH LEVEL FIELD VALUE
 0 3 0 reserved 0
 3 3 0 Version 1
-6 10 0 MessageType 30
+6 10 0 MessageType 30\tADD_ROSPEC_RESPONSE
 16 32 0 MessageLength 14
 48 32 0 MessageID 1
 then, refused:
@@ -68,13 +68,13 @@ const JSON: Wanted = Wanted {
         b"{\"frame\":1,\"octets\":10,\"fields\":[\
         {\"bit\":0,\"width\":3,\"name\":\"reserved\",\"level\":0,\"value\":0},\
         {\"bit\":3,\"width\":3,\"name\":\"Version\",\"level\":0,\"value\":2},\
-        {\"bit\":6,\"width\":10,\"name\":\"MessageType\",\"level\":0,\"value\":62},\
+        {\"bit\":6,\"width\":10,\"name\":\"MessageType\",\"level\":0,\"value\":62,\"reading\":\"KEEPALIVE\"},\
         {\"bit\":16,\"width\":32,\"name\":\"MessageLength\",\"level\":0,\"value\":10},\
         {\"bit\":48,\"width\":32,\"name\":\"MessageID\",\"level\":0,\"value\":7}]}\n",
         b"{\"frame\":2,\"octets\":14,\"fields\":[\
         {\"bit\":0,\"width\":3,\"name\":\"reserved\",\"level\":0,\"value\":0},\
         {\"bit\":3,\"width\":3,\"name\":\"Version\",\"level\":0,\"value\":1},\
-        {\"bit\":6,\"width\":10,\"name\":\"MessageType\",\"level\":0,\"value\":30},\
+        {\"bit\":6,\"width\":10,\"name\":\"MessageType\",\"level\":0,\"value\":30,\"reading\":\"ADD_ROSPEC_RESPONSE\"},\
         {\"bit\":16,\"width\":32,\"name\":\"MessageLength\",\"level\":0,\"value\":14},\
         {\"bit\":48,\"width\":32,\"name\":\"MessageID\",\"level\":0,\"value\":1},\
         {\"bit\":80,\"width\":6,\"name\":\"reserved\",\"level\":1,\"value\":0,\"refused\":true},\

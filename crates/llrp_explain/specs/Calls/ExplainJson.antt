@@ -1,7 +1,9 @@
 -- The text of a frame as an object of JSON (RFC 8259): each line of a field is one object, with the same five columns.
-use Rattle.std.specs.Prelude.{ℕ, ◌^◌, ◌<◌, List, [], ◌∷◌, ◌++◌, Bool, true, false, ◌&&◌, ◌==◌, not, nat_le, if◌then◌else◌, drop, codes, decimal}
+use Rattle.std.specs.Prelude.{◌≡◌, ℕ, ◌^◌, ◌<◌, List, [], ◌∷◌, ◌++◌, length, get_or, Option, Bool, true, false, ◌&&◌, ◌==◌, not, nat_le, if◌then◌else◌, drop, codes, decimal}
 use Rattle.std.specs.List.{flat_map, slice_split, before_first, after_first, before_last, after_last}
 use Rattle.hex.specs.Hex.{encode_lower, IsBytes}
+use Rattle.llrp_schema.specs.declared.kinds.Kind.{Kind}
+use Rattle.llrp_explain.specs.Calls.ExplainText.{line_reading, line_value}
 use Rattle.llrp_explain.specs.Calls.ExplainLines.{Standing, ANumber, Octets, ExplainLine, standing_bits}
 use Rattle.llrp_explain.specs.declared.json.LineKind.{LineKind}
 use Rattle.llrp_explain.specs.declared.json.LineKind.TheVariants.{Field, Heading, Fault, Other}
@@ -41,37 +43,54 @@ abbrev pub field_end : Bool → List ℕ
 field_end true = codes ",\"refused\":true}"
 field_end false = codes "}"
 
--- The object of a field's line, BIT WIDTH LEVEL FIELD VALUE: the name may have spaces, and the value is what stands after the last one.
-unfoldable pub field_json : (refused : Bool) → List ℕ → List ℕ
-field_json refused line =
-    let after_bit = other_words line in
+abbrev pub is_tab : ℕ → Bool
+is_tab c = c == 9
+
+-- the reading of a field's number, if it has one
+abbrev pub reading_json : List ℕ → List ℕ
+reading_json [] = []
+reading_json (c ∷ reading) = codes ",\"reading\":" ++ json_string (c ∷ reading)
+
+-- The members of the columns BIT WIDTH LEVEL FIELD VALUE: the name may have spaces, and the value is what stands after the last one.
+unfoldable pub columns_json : List ℕ → List ℕ
+columns_json columns =
+    let after_bit = other_words columns in
     let after_width = other_words after_bit in
     let after_level = other_words after_width in
-    codes "{\"bit\":" ++ (first_word line ++ (codes ",\"width\":" ++ (first_word after_bit ++ (codes ",\"name\":" ++ (json_string (before_last is_space after_level) ++ (codes ",\"level\":" ++ (first_word after_width ++ (codes "," ++ (standing_json (after_last is_space after_level) ++ field_end refused)))))))))
+    codes "{\"bit\":" ++ (first_word columns ++ (codes ",\"width\":" ++ (first_word after_bit ++ (codes ",\"name\":" ++ (json_string (before_last is_space after_level) ++ (codes ",\"level\":" ++ (first_word after_width ++ (codes "," ++ standing_json (after_last is_space after_level)))))))))
+
+-- The object of a field's line: its columns, and after a tab its reading.
+unfoldable pub field_json : (refused : Bool) → List ℕ → List ℕ
+field_json refused line = columns_json (before_first is_tab line) ++ (reading_json (after_first is_tab line) ++ field_end refused)
 
 -- ---- a field by its columns
 
--- what stands in a field
-abbrev pub standing_member : Standing → List ℕ
-standing_member (ANumber value) = codes "\"value\":" ++ decimal value
-standing_member (Octets octets) = codes "\"hex\":\"" ++ (encode_lower octets ++ codes "\"")
+-- what stands in a line: octets, or a number by its text
+abbrev pub value_member : Standing → (text : List ℕ) → List ℕ
+value_member (ANumber value) text = codes "\"value\":" ++ text
+value_member (Octets octets) text = codes "\"hex\":\"" ++ (encode_lower octets ++ codes "\"")
 
--- the object of a line that begins at this bit
-abbrev pub line_object : (refused : Bool) (bit : ℕ) → ExplainLine → List ℕ
-line_object refused bit l =
-    codes "{\"bit\":" ++ (decimal bit ++ (codes ",\"width\":" ++ (decimal (standing_bits l.bits l.standing) ++ (codes ",\"name\":" ++ (json_string l.name ++ (codes ",\"level\":" ++ (decimal l.level ++ (codes "," ++ (standing_member l.standing ++ field_end refused)))))))))
+-- the members of a line that begins at this bit, whose value has this text
+abbrev pub line_columns : (bit : ℕ) → ExplainLine → (text : List ℕ) → List ℕ
+line_columns bit l text =
+    codes "{\"bit\":" ++ (decimal bit ++ (codes ",\"width\":" ++ (decimal (standing_bits l.bits l.standing) ++ (codes ",\"name\":" ++ (json_string l.name ++ (codes ",\"level\":" ++ (decimal l.level ++ (codes "," ++ value_member l.standing text))))))))
+
+-- the object of a line after the head of a kind
+abbrev pub line_object : Option Kind → (refused : Bool) (bit : ℕ) → ExplainLine → List ℕ
+line_object before refused bit l = line_columns bit l (line_value before l.kind l) ++ (reading_json (line_reading before l.kind l) ++ field_end refused)
 
 -- a number of 64 digits at most, or octets
 abbrev pub IsShort : Standing → Type 0
 IsShort (ANumber value) = value < 10 ^ 64
 IsShort (Octets octets) = IsBytes octets
 
--- a line whose numbers have 64 digits at most
+-- a line whose numbers have 64 digits at most, and whose name has no tab
 pub record HasShortColumns (bit : ℕ) (l : ExplainLine) : Type 0 where
   pub bit_short : bit < 10 ^ 64
   pub width_short : standing_bits l.bits l.standing < 10 ^ 64
   pub level_short : l.level < 10 ^ 64
   pub standing_short : IsShort l.standing
+  pub name_short : (k : ℕ) → k < length l.name → is_tab (get_or l.name k 0) ≡ false
 
 -- ---- a fault
 

@@ -3,6 +3,7 @@ use Rattle.std.specs.Prelude.{ℕ, suc, ◌+◌, ◌*◌, ◌/◌, List, [], ◌
 use Rattle.std.specs.List.{flat_map}
 use Rattle.std.specs.Prelude.{codes}
 use Rattle.tag_bits.specs.Digits.{digits, digits_of_bytes}
+use Rattle.llrp_schema.specs.declared.kinds.Kind.{Kind}
 use Rattle.llrp_schema.specs.declared.kinds.Kind.TheVariants.{Message, Parameter}
 use Rattle.llrp_schema.specs.declared.kinds.Tail.{Tail}
 use Rattle.llrp_schema.specs.declared.kinds.Tail.TheVariants.{Absent, Words, Text, Bits, Data}
@@ -17,15 +18,20 @@ pub data Standing : Type 0 where
   ANumber : ℕ → Standing
   Octets : List ℕ → Standing
 
--- A line: how many levels below the message its node is, the field's name, its bits, and what stands there. The bit at which it begins is the sum of the bits of the lines before.
+-- A line: how many levels below the message its node is, the field's name, its bits, what stands there, and the kind whose number that is, in the type of a head. The bit at which it begins is the sum of the bits of the lines before.
 pub record ExplainLine : Type 0 where
   pub level : ℕ
   pub name : List ℕ
   pub bits : ℕ
   pub standing : Standing
+  pub kind : Option Kind
 
 abbrev pub line : ℕ → List ℕ → ℕ → ℕ → ExplainLine
-line level name width value = record { level = level; name = name; bits = width; standing = ANumber value }
+line level name width value = record { level = level; name = name; bits = width; standing = ANumber value; kind = None }
+
+-- the line of the type in a head: a kind's number
+abbrev pub kind_line : ℕ → List ℕ → ℕ → Kind → ExplainLine
+kind_line level name width kind = record { level = level; name = name; bits = width; standing = ANumber (number_of kind); kind = Some kind }
 
 -- the digits of a line
 abbrev pub standing_digits : ℕ → Standing → List Bool
@@ -51,9 +57,9 @@ bits_of_lines (l ∷ lines) = standing_bits l.bits l.standing + bits_of_lines li
 
 unfoldable pub head_lines : ℕ → Head → List ExplainLine
 head_lines level (message version kind count id) =
-    line level (codes "reserved") 3 0 ∷ line level (codes "Version") 3 version ∷ line level (codes "MessageType") 10 (number_of (Message kind)) ∷ line level (codes "MessageLength") 32 count ∷ line level (codes "MessageID") 32 id ∷ []
-head_lines level (tlv kind count) = line level (codes "reserved") 6 0 ∷ line level (codes "ParameterType") 10 (number_of (Parameter kind)) ∷ line level (codes "ParameterLength") 16 count ∷ []
-head_lines level (tv kind) = line level (codes "type and value") 1 1 ∷ line level (codes "ParameterType") 7 (number_of (Parameter kind)) ∷ []
+    line level (codes "reserved") 3 0 ∷ line level (codes "Version") 3 version ∷ kind_line level (codes "MessageType") 10 (Message kind) ∷ line level (codes "MessageLength") 32 count ∷ line level (codes "MessageID") 32 id ∷ []
+head_lines level (tlv kind count) = line level (codes "reserved") 6 0 ∷ kind_line level (codes "ParameterType") 10 (Parameter kind) ∷ line level (codes "ParameterLength") 16 count ∷ []
+head_lines level (tv kind) = line level (codes "type and value") 1 1 ∷ kind_line level (codes "ParameterType") 7 (Parameter kind) ∷ []
 
 -- the lines of leading fields, reserved ones among them
 unfoldable pub field_lines : ℕ → List FieldRule → List ℕ → List ExplainLine
@@ -62,7 +68,7 @@ field_lines level [] (v ∷ values) = []
 field_lines level (r ∷ rules) (v ∷ values) = line level r.name r.width v ∷ field_lines level rules values
 
 abbrev pub octets_line : ℕ → List ℕ → List ℕ → ExplainLine
-octets_line level name octets = record { level = level; name = name; bits = 8 * length octets; standing = Octets octets }
+octets_line level name octets = record { level = level; name = name; bits = 8 * length octets; standing = Octets octets; kind = None }
 
 -- a tail, after its count if it has one
 unfoldable pub tail_lines : ℕ → Tail → List ℕ → List ExplainLine

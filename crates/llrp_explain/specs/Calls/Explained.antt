@@ -14,7 +14,7 @@ use Rattle.llrp_explain.specs.declared.form.Form.{Form}
 use Rattle.llrp_explain.specs.declared.form.Form.TheVariants.{Text, Json}
 use Rattle.llrp_explain.specs.Calls.ExplainJson.{frame_json}
 use Rattle.llrp_explain.specs.Calls.ExplainLines.{message_lines, open_lines}
-use Rattle.llrp_explain.specs.Calls.ExplainText.{lines_text}
+use Rattle.llrp_explain.specs.Calls.ExplainText.{readings_text}
 use Rattle.llrp_explain.specs.Calls.FaultLines.{IsFaultTree, refused_lines}
 use Rattle.llrp_explain.specs.Calls.FaultSentences.{refusal_text}
 use Rattle.llrp_explain.specs.Calls.HeaderFaults.{fault_line, header_sentence, refused_text}
@@ -24,7 +24,7 @@ use Rattle.llrp_explain.specs.Calls.HeaderFaults.{fault_line, header_sentence, r
 -- The text of a fault; `rest` are the digits after the open tree. Of one in the header the fields of that up to the one that fails, and what is wrong with it; of any other the lines of the open tree of which FirstFault speaks, and what is refused after it.
 unfoldable pub fault_text : KindSet → (limit : ℕ) → List Begun → (bit : ℕ) → Reason → (rest : List Bool) → List ℕ
 fault_text p limit [] bit reason rest = refused_text 0 (refused_lines [] reason rest) ++ fault_line bit (header_sentence p limit reason rest)
-fault_text p limit (b ∷ outer) bit reason rest = lines_text 0 (open_lines (b ∷ outer)) ++ refusal_text (b ∷ outer) bit reason rest
+fault_text p limit (b ∷ outer) bit reason rest = readings_text None 0 (open_lines (b ∷ outer)) ++ refusal_text (b ∷ outer) bit reason rest
 
 -- what comes before the lines of a frame: its number, how many octets it has, and the names of the columns
 unfoldable pub frame_title : (number octets : ℕ) → List ℕ
@@ -37,7 +37,7 @@ in_form Json number octets lines = frame_json number octets lines
 
 -- of a frame that spells a message, the lines of that message
 abbrev pub IsExplainedMessage : KindSet → (limit : ℕ) → (frame lines : List ℕ) → Type 0
-IsExplainedMessage p limit frame lines = (m : MessageTree) × FrameIn p m frame limit × (lines ≡ lines_text 0 (message_lines m))
+IsExplainedMessage p limit frame lines = (m : MessageTree) × FrameIn p m frame limit × (lines ≡ readings_text None 0 (message_lines m))
 
 -- of any other, the text of its first fault
 abbrev pub IsExplainedFault : KindSet → (limit : ℕ) → (frame lines : List ℕ) → Type 0

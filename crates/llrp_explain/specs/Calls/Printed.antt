@@ -1,12 +1,12 @@
 -- What a printer of lines holds.
-use Rattle.std.specs.Prelude.{◌≡◌, ℕ, ◌<◌, List, ◌++◌}
+use Rattle.std.specs.Prelude.{◌≡◌, ℕ, ◌<◌, List, ◌++◌, None}
 use Rattle.llrp_explain.specs.declared.lines.Lines.{Lines}
 use Rattle.llrp_explain.specs.Calls.ExplainLines.{ExplainLine, bits_of_lines}
-use Rattle.llrp_explain.specs.Calls.ExplainText.{lines_text}
+use Rattle.llrp_explain.specs.Calls.ExplainText.{kind_after, readings_text}
 
--- After a text it holds the text of these lines, and the bit at which the next one begins; so long as that has 32 bits, as each bit of a frame has.
+-- After a text it holds the text of these lines, the bit at which the next one begins, and the kind whose fields come next; so long as that bit has 32 bits, as each bit of a frame has.
 unfoldable pub Holds : List ℕ → List ExplainLine → Lines → Type 0
-Holds was lines printer = bits_of_lines lines < 4294967296 → (printer.text.items ≡ was ++ lines_text 0 lines) × (printer.bit ≡ bits_of_lines lines)
+Holds was lines printer = bits_of_lines lines < 4294967296 → (printer.text.items ≡ was ++ readings_text None 0 lines) × (printer.bit ≡ bits_of_lines lines) × (printer.kind ≡ kind_after None lines)
 
 -- it holds these lines more
 abbrev pub Adds : List ExplainLine → Lines → Lines → Type 0

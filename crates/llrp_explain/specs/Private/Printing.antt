@@ -1,5 +1,5 @@
 -- What the printer of a frame holds at its end, and what is made of it.
-use Rattle.std.specs.Prelude.{◌≡◌, ℕ, ◌++◌, List, [], drop, Bool, true, false, ◌&&◌, Option}
+use Rattle.std.specs.Prelude.{◌≡◌, ℕ, ◌++◌, List, [], drop, Bool, true, false, ◌&&◌, Option, None}
 use Rattle.tag_bits.specs.Digits.{digits_of_bytes}
 use Rattle.llrp_schema.specs.declared.kinds.KindSet.{KindSet}
 use Rattle.llrp_tree.specs.declared.fault.Reason.{Reason}
@@ -13,7 +13,7 @@ use Rattle.llrp_stream.specs.Calls.Frames.{IsRefused}
 use Rattle.llrp_explain.specs.declared.form.Form.{Form}
 use Rattle.llrp_explain.specs.declared.printer.FramePrinter.{FramePrinter}
 use Rattle.llrp_explain.specs.Calls.ExplainLines.{message_lines}
-use Rattle.llrp_explain.specs.Calls.ExplainText.{lines_text}
+use Rattle.llrp_explain.specs.Calls.ExplainText.{readings_text}
 use Rattle.llrp_explain.specs.Calls.Printed.{Holds}
 use Rattle.llrp_explain.specs.Calls.Printing.{IsRefusal}
 use Rattle.llrp_explain.specs.Calls.FaultLines.{IsFaultTree}
@@ -38,5 +38,5 @@ IsAppended form only p limit number frame old new before after = (one : List ℕ
 
 -- the lines of the message of a frame were appended, or the text of its fault
 abbrev pub IsOutcomeText : KindSet → (limit : ℕ) → (frame old new : List ℕ) → Bool → Type 0
-IsOutcomeText p limit frame old new true = (m : MessageTree) × FrameIn p m frame limit × (new ≡ old ++ lines_text 0 (message_lines m))
+IsOutcomeText p limit frame old new true = (m : MessageTree) × FrameIn p m frame limit × (new ≡ old ++ readings_text None 0 (message_lines m))
 IsOutcomeText p limit frame old new false = (bit : ℕ) × (reason : Reason) × FirstFaultIn p frame limit bit reason × IsRefusedText p limit frame bit reason old new

@@ -97,9 +97,10 @@ Reads a stream of LLRP messages on standard input, or each FILE, to its end, and
   BIT WIDTH LEVEL FIELD VALUE
 and a line for each field of its message in the order of the frame's bits, reserved ones, heads and
 counts too: the bit at which the field begins, how many bits it has, how many levels below the message
-its parameter is, its name, and its value in decimal, or x and the octets of a tail in hexadecimal. Of a
-frame that is not a message there are the lines before its first fault, those that are refused, and the
-line of the fault: its bit, the octet that has it, and the REASON with a sentence.
+its parameter is, its name, and its value in decimal, or x and the octets of a tail in hexadecimal. After
+a tab comes the name of the message or parameter whose type it is, or the name that docs/tables.md has
+for the number. Of a frame that is not a message there are the lines before its first fault, those that
+are refused, and the line of the fault: its bit, the octet that has it, and the REASON with a sentence.
   ? N                        N bytes of an unfinished frame at the end
   ! BROKEN                   a length below 10, at which the stream breaks off
 A frame is printed when its last byte was read, with --hex its last digit. With --json each frame is one
@@ -115,7 +116,7 @@ Example:
   BIT WIDTH LEVEL FIELD VALUE
   0 3 0 reserved 0
   3 3 0 Version 2
-  6 10 0 MessageType 62
+  6 10 0 MessageType 62\tKEEPALIVE
   16 32 0 MessageLength 10
   48 32 0 MessageID 7";
 
