@@ -63,8 +63,9 @@ fn error_status(error: ToolErr) -> u8
     }
 }
 
-/// Writes the parts of a text in order.
-pub(crate) fn write_parts<W: Sink>(w: &mut W, parts: &[&[u8]]) -> Result<(), ToolErr>
+/// Writes the parts of a text in order. The only error is `Write`, after which some first part of the text was
+/// written.
+pub fn write_parts<W: Sink>(w: &mut W, parts: &[&[u8]]) -> Result<(), ToolErr>
     requires { CanWrite (W.log w.old) }
     ensures { Writes (flat_map (λ part. part.now) parts.now) (W.log w.old) (W.log w.new) result }
 {

@@ -25,7 +25,7 @@ mod run;
 mod show_names;
 mod show_segments;
 
-pub use command::{LIMIT, USAGE, answer, write_refusal};
+pub use command::{LIMIT, USAGE, answer, write_parts, write_refusal};
 pub use epc_table::{prefixes_file, refuse_table, run_epc_by};
 pub use llrp_keys::TableErr;
 pub use llrp_words::{

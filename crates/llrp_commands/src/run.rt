@@ -149,28 +149,28 @@ fn say_mistake<E: Sink>(text: &str, e: &mut E) -> Result<u8, ToolErr>
 /// Does what is requested, and returns the exit status, as [`run_command`] says.
 pub fn run_request<R: Source, W: Sink, E: Sink>(
     alloc: Global,
-    request: Request<'_>,
+    request: &Request<'_>,
     r: &mut R,
     w: &mut W,
     e: &mut E,
 ) -> Result<u8, ToolErr>
-    requires limit { HasLimit request }
+    requires limit { HasLimit request.now }
     requires source { IsFreshSource (R.log r.old) }
     requires sink { IsFreshSink (W.log w.old) }
     requires errors { CanWrite (E.log e.old) }
-    ensures does { Does (said request.entry) (R.log r.old) (R.log r.new) (W.log w.old) (W.log w.new)
+    ensures does { Does (said request.now) (R.log r.old) (R.log r.new) (W.log w.old) (W.log w.new)
         (E.log e.old) (E.log e.new) result }
-    ensures segments { (s : Show) (port : ℕ) → said request.entry ≡ show s → MeansLines s (captured port)
+    ensures segments { (s : Show) (port : ℕ) → said request.now ≡ show s → MeansLines s (captured port)
         → CapturesTo s port (R.log r.old) (R.log r.new) (W.log w.old) (W.log w.new) (E.log e.old)
         (E.log e.new) result }
     ensures errors { IfErr result (λ error. FailsAsTold (E.log e.old) (E.log e.new) error) }
 {
     match request {
-        Request::Show(words) => run_show(alloc, words, r, w, e),
-        Request::Encode(words) => run_encode(alloc, words, r, w, e),
-        Request::Epc(words) => run_epc(alloc, words, r, w, e),
+        Request::Show(words) => run_show(alloc, *words, r, w, e),
+        Request::Encode(words) => run_encode(alloc, *words, r, w, e),
+        Request::Epc(words) => run_epc(alloc, *words, r, w, e),
         Request::Fields { all, name } => {
-            let set = set_of(all);
+            let (set, name) = (set_of(*all), *name);
             let outcome = fields(alloc, set, name, w);
             answer_fields(alloc, set, name.unwrap_or(""), outcome, e)
         }
@@ -181,7 +181,8 @@ pub fn run_request<R: Source, W: Sink, E: Sink>(
             only,
             limit,
         } => {
-            let outcome = explain(alloc, form_of(json), only, hex, set_of(all), limit, r, w);
+            let set = set_of(*all);
+            let outcome = explain(alloc, form_of(*json), *only, *hex, set, *limit, r, w);
             answer(verdict_status(outcome), e)
         }
         Request::Network(_) => Ok(USAGE),
@@ -216,5 +217,5 @@ pub fn run_command<S: AsStr, R: Source, W: Sink, E: Sink>(
     ensures errors { IfErr result (λ error. FailsAsTold (E.log e.old) (E.log e.new) error) }
 {
     let request = request_of(alloc, words)?;
-    run_request(alloc, request, r, w, e)
+    run_request(alloc, &request, r, w, e)
 }

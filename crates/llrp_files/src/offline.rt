@@ -4,6 +4,7 @@ ghost use Rattle.llrp_words.specs.Calls.Requests.{HasLimit};
 
 use crate::files::run_files;
 use crate::hints::Noticing;
+use crate::opened::HostInputs;
 use crate::prefixes::run_epc_by_file;
 use crate::terminal::{say_hint, say_waiting};
 use llrp_commands::{Request, asked_of, run_request};
@@ -38,7 +39,7 @@ fn run_streams(rt: &HostRuntime, words: &[String], request: Request<'_>) -> Resu
     let mut input = Noticing::new(Input::new(rt.stdin()));
     let status = run_request(
         rt.alloc(),
-        request,
+        &request,
         &mut input,
         &mut Output::new(rt.stdout()),
         &mut Output::new(rt.stderr()),
@@ -55,13 +56,23 @@ fn prefixes_of<'a>(request: &Request<'a>) -> Option<&'a str> {
     }
 }
 
-/// Runs the command that the words ask for, which are parsed once where no file is named, and returns its exit status, or `None` if it is
+/// Runs the command that the words ask for, which are parsed once, and returns its exit status, or `None` if it is
 /// one over sockets. The errors are `Memory` if memory ran out before the command was known, and `Write` if writing to
 /// standard error failed.
 pub fn run_offline(rt: &HostRuntime, words: &[String]) -> Result<Option<u8>, ToolErr> {
     let (request, files) = asked_of(rt.alloc(), words)?;
     if !files.is_empty() {
-        return Ok(Some(run_files(rt, words, files.as_slice())?));
+        let inputs = HostInputs { rt, words };
+        let mut errors = Output::new(rt.stderr());
+        let (_stdout, outcome) = run_files(
+            rt.alloc(),
+            &request,
+            files.as_slice(),
+            &inputs,
+            rt.stdout(),
+            &mut errors,
+        );
+        return Ok(Some(outcome?));
     }
     if let Some(path) = prefixes_of(&request) {
         return Ok(Some(run_epc_by_file(rt, words, path)?));

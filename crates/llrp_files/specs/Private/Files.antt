@@ -1,12 +1,16 @@
--- One of the files that a command reads.
-use Rattle.std.specs.Prelude.{ℕ, List, Ok}
-use Rattle.llrp_stream.specs.Device.{SourceLog, SinkLog}
-use Rattle.llrp_commands.specs.Calls.Does.{Runs}
-use Rattle.llrp_commands.specs.Calls.ShowSegments.{CapturesIfAsked}
+-- One of the files that a command reads, by the answer.
+use Rattle.std.specs.Prelude.{ℕ, List, Option, Result, Ok, Err}
+use Rattle.llrp_stream.specs.Device.{SinkLog}
+use Rattle.llrp_listing.specs.declared.outcome.ToolErr.{ToolErr}
+use Rattle.llrp_words.specs.Calls.Asked.{Asked}
+use Rattle.llrp_files.specs.Calls.Files.{FailedFile, Name, RanFile, Said, Standing, Unsaid}
 
--- The command that the words ask for ran over what a file gives, and ended with this status. Its error lines went to a sink of their own.
-pub record RanOver (words : List (List ℕ)) (r0 r1 : SourceLog) (w0 w1 : SinkLog) (status : ℕ) : Type 0 where
-  pub e0 : SinkLog
-  pub e1 : SinkLog
-  pub runs : Runs words r0 r1 w0 w1 e0 e1 (Ok status)
-  pub segments : CapturesIfAsked words r0 r1 w0 w1 e0 e1 (Ok status)
+-- a line was said whole, or a write failed
+abbrev pub Says : Name → List ℕ → SinkLog → SinkLog → Result (Unit {0}) ToolErr → Type 0
+Says name line e0 e1 (Ok u) = Said name line e0 e1
+Says name line e0 e1 (Err error) = Unsaid name line e0 e1 error
+
+-- a file's turn, by its answer
+abbrev pub TakesFile : Standing → Asked → Name → Option (List ℕ) → Option (List ℕ) → SinkLog → SinkLog → Result ℕ ToolErr → Type 0
+TakesFile stands asked name c0 c1 e0 e1 (Ok status) = RanFile stands asked name c0 c1 e0 e1 status
+TakesFile stands asked name c0 c1 e0 e1 (Err error) = FailedFile stands asked name c0 c1 e0 e1 error
