@@ -83,7 +83,7 @@ class Book:
 
     def __init__(self):
         self.tree = Tree(TOP)
-        self.definitions = believed.Count(self.tree, [*believed.PROMISES, believed.WORDS]).definitions
+        self.definitions = believed.count_of(self.tree, [*believed.PROMISES, believed.WORDS]).definitions
         self.mistakes, self.written, self.parts = planted(), [], []
 
     def anchor(self, definition):
@@ -188,7 +188,7 @@ class Book:
             for name in names_of(title):
                 self.write_contract(title, name)
             new = self.of_promise[title]
-            all_of_it = len(believed.Count(self.tree, [title]).definitions)
+            all_of_it = len(believed.count_of(self.tree, [title]).definitions)
             self.parts.append(f"<h3>Definitions</h3>\n<p>It rests on {all_of_it:,} definitions, of which {len(new):,} are new here.</p>")
             for definition in new:
                 self.write_definition(definition)
@@ -224,7 +224,7 @@ class Book:
         self.parts.append(f'<nav><h2>Contents</h2>\n<ul class="contents">\n{contents}{more}</ul></nav>')
         for heading, lines in parts.items():
             number = heading.split(".")[0]
-            title = titles.get(number) or (believed.WORDS if not number.isdecimal() else None)
+            title = titles.get(number) or (believed.WORDS if heading.endswith(believed.WORDS) else None)
             self.write_promise(heading, title, lines, sentences.get(int(number)) if number.isdecimal() else None)
         self.write_other_mistakes()
         self.write_index()

@@ -81,6 +81,8 @@ BESIDES = {
 # From the words of a command to the calls of the promises, and to their exit statuses and error lines; captures are beside the promises.
 WORDS = "words to calls"
 ALL = "1 to 11, and words to calls"
+# What other public contracts reach beside these: captures, `ask`, `access`, `watch`, `sim --clock` and calls of the libraries.
+OTHERS = "what other contracts add"
 COMMANDS = {
     WORDS: "llrp_commands::run_command/runs/errors"
            " llrp_words::network_command llrp_commands::write_refusal llrp::plan_of llrp::read_plan"
@@ -110,11 +112,10 @@ def contracts_of(tree, titles, *tables):
 
 
 class Count:
-    """What is believed for some promises, or for the way from words to calls."""
+    """How many definitions these are, and of how many lines."""
 
-    def __init__(self, tree, titles, *tables):
-        contracts = contracts_of(tree, titles, *(tables or (PROMISES, BESIDES, COMMANDS)))
-        self.definitions = tree.reached_from(contracts, HANDED_ON)
+    def __init__(self, tree, definitions):
+        self.definitions = definitions
         self.lines = sum(len(d.lines) for d in self.definitions)
         self.files = {(d.crate, d.module) for d in self.definitions}
         self.file_lines = sum(tree.modules[file].text.count("\n") for file in self.files)
@@ -128,18 +129,25 @@ class Count:
         return f"{len(self.definitions):,} definitions of {self.lines:,} lines"
 
 
+def count_of(tree, titles, *tables):
+    """A count of what is believed for some promises, or for the way from words to calls."""
+    return Count(tree, tree.reached_from(contracts_of(tree, titles, *(tables or (PROMISES, BESIDES, COMMANDS))), HANDED_ON))
+
+
 def counts(tree):
-    """A count of each promise, of those up to the fourth, the sixth and the last, and of these with the way from words to calls."""
+    """A count of each promise, of those up to the fourth, the sixth and the last, of these with the way from words to calls, and of what other
+    public contracts reach."""
     titles = list(PROMISES)
-    found = {title: Count(tree, [title]) for title in [*titles, WORDS]}
-    found |= {f"1 to {last}": Count(tree, titles[:last - 1]) for last in (4, 6, 11)}
-    return found | {ALL: Count(tree, [*titles, WORDS])}
+    found = {title: count_of(tree, [title]) for title in [*titles, WORDS]}
+    found |= {f"1 to {last}": count_of(tree, titles[:last - 1]) for last in (4, 6, 11)}
+    believed = count_of(tree, [*titles, WORDS])
+    return found | {ALL: believed, OTHERS: Count(tree, tree.reached_from(tree.public, HANDED_ON) - believed.definitions)}
 
 
 def places(tree):
     """Where each definition may stand, first where it belongs: nothing for specs/ itself, else the folder."""
-    promised, believed = Count(tree, PROMISES, PROMISES).definitions, Count(tree, [*PROMISES, WORDS]).definitions
-    others = Count(tree, [title for title in PROMISES if title != KEYS], PROMISES).definitions
+    promised, believed = count_of(tree, PROMISES, PROMISES).definitions, count_of(tree, [*PROMISES, WORDS]).definitions
+    others = count_of(tree, [title for title in PROMISES if title != KEYS], PROMISES).definitions
     public = tree.reached_from(tree.public, HANDED_ON)
 
     def folders(definition):

@@ -64,7 +64,7 @@ def written():
 
 def definitions(tree, page):
     """Whether each believed definition is there once, to the letter."""
-    for it in believed.Count(tree, [*believed.PROMISES, believed.WORDS]).definitions:
+    for it in believed.count_of(tree, [*believed.PROMISES, believed.WORDS]).definitions:
         place = f"{it.crate}.{it.module}.{it.name}"
         text = "\n".join(it.lines).rstrip("\n")
         yield f"the definition {place}", page.places.count(place) == 1 and page.texts.get(place) == [text]
