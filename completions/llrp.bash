@@ -25,8 +25,10 @@ _llrp() {
             encode) words='--hex --all --json --keys --schemes --limit --help' ;;
             inventory) words='--rospec --every --polls --reports --check --clean --json --all --timeout --limit --verbose --keys --schemes --help' ;;
             loop) words='--rospec --every --polls --reports --check --clean --json --all --help' ;;
-            watch) words='--rospec --id --every --keepalive --again --text --antennas --limit --save --verbose --for --name --power --messages --access --keys --schemes --help' ;;
-            stop) words='--rospec --id --timeout --help' ;;
+            watch | stop)
+                words='--rospec --id --every --keepalive --again --text --antennas --limit --save --verbose --for --name --power --messages --access --keys --schemes --help'
+                [ "${COMP_WORDS[1]}" = watch ] || words+=' --timeout'
+                ;;
             ask) words='--json --timeout --go-on --raw --help' ;;
             access) words='--tag --read --write --epc --lock --password-file --verify --antenna --settle --timeout --json --help' ;;
             sim) words='--all --bind --clients --clock --answers --ready --keep --help' ;;

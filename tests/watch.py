@@ -27,7 +27,7 @@ from parts.ports import free_port
 from parts.repository import TOP, program_given
 
 # How many comparisons there are.
-LEAST = 355
+LEAST = 355 + 15
 # How long a run may take, in seconds, and how many parts run at a time.
 LONGEST = 20
 PARTS_AT_ONCE = 8
@@ -1110,10 +1110,58 @@ def stop_runs():
     yield "stop: a reader that refuses", run(Reader(refusals=9), "stop", "--timeout", "1")[::2] == (1, "llrp: status 1\n")
 
 
+def stop_with_words_of_watch():
+    """What `watch` takes `stop` takes too: it deletes what the words say, and passes over the rest."""
+    with tempfile.TemporaryDirectory() as folder:
+        saved = os.path.join(folder, "saved")
+        for words in (
+            ("--antennas", "1,2", "--power", "25.5"),
+            ("--antennas", "none", "--power", "much", "--schemes", "most"),
+            ("--every", "3", "--keepalive", "0", "--again", "60", "--for", "1", "--limit", "4096"),
+            ("--text", "--messages", "--keys", "--verbose", "--schemes", "all", "--name", "dock"),
+            ("--save", saved),
+        ):
+            reader = Reader()
+            reader.rospecs = {1, OWN_ID}
+            name = "stop " + " ".join(words)
+            yield name, run(reader, "stop", *words) == (0, "", "") and asked(reader) == ["DELETE", "CLOSE"] and reader.rospecs == {1}
+        yield "stop --save opens no file", not os.path.exists(saved)
+    reader = Reader()
+    reader.rospecs = {1, 7}
+    yield "stop --id", run(reader, "stop", "--id", "7", "--every", "3") == (0, "", "") and reader.rospecs == {1}
+    for words in (("--every", "0"), ("--limit", "4095"), ("--for", "none")):
+        yield f"stop {' '.join(words)}", run(reader, "stop", *words)[0] == 2
+
+
+def stop_with_access():
+    """stop --access: what deletes one AccessSpec goes before the deletion of the ROSpec."""
+    words = ("--keepalive", "0", "--access", TID_FILE)
+    reader = Reader()
+    run(reader, "watch", *words)
+    is_left = OWN_ID in reader.rospecs and reader.accesses == {9}
+    reader.rospecs.add(1)
+    reader.accesses.add(8)
+    for name in ("left", "none"):
+        reader.asked.clear()
+        is_right = run(reader, "stop", *words) == (0, "", "") and asked(reader) == LEAVING
+        yield f"stop --access: {name}", is_left and is_right and (reader.rospecs, reader.accesses) == ({1}, {8})
+    reader = Reader(denied=[DELETE_ACCESS])
+    yield "stop --access: a refused DELETE_ACCESSSPEC", run(reader, "stop", *words) == (0, "", "") and asked(reader) == LEAVING
+    with tempfile.TemporaryDirectory() as folder:
+        path = os.path.join(folder, "some.access")
+        with open(path, "w", encoding="ascii") as file, open(TID_FILE, encoding="ascii") as lines:
+            file.write(lines.read() + "0 KEEPALIVE_ACK 1 7\n")
+        reader = Reader()
+        yield "stop --access: a file that is refused", run(reader, "stop", "--access", path) == (1, "", "llrp: access line 11: Name\n")
+    yield "stop --access: no file", run(reader, "stop", "--access", "/nonexistent/tid") == (3, "", "llrp: access\n")
+    yield "stop --access: nothing is sent then", not reader.asked
+
+
 # Parts that run side by side, since each run has a reader of its own and most of it is waiting; those that wait longest first.
 SIDE_BY_SIDE = (
     ends_by_the_clock, messages_runs, access_runs, access_refusals, powers, bad_ends, odd_frames, again_runs, verbose_runs, save_runs, label_runs,
-    option_runs, plain_runs, all_of_a_tag, access_files, addresses, words_that_clash, ends_of_its_own, stop_runs,
+    option_runs, plain_runs, all_of_a_tag, access_files, addresses, words_that_clash, ends_of_its_own, stop_runs, stop_with_words_of_watch,
+    stop_with_access,
 )
 # Parts that measure moments or memory run alone.
 ALONE = (moments, long_runs)

@@ -162,7 +162,9 @@ def checks_of_pages(flags):
     table = re.findall(r"(?m)^\| `llrp (\w+)([^`]*)` \|", text_of("README.md"))
     yield "the table of README.md", sorted(name for name, _ in table) == sorted(set(flags) - {""})
     for name, usage in [*((name, usage.replace("Fl -", "--")) for name, usage in usages if name != "help"), *table]:
-        yield f"the flags of {name}", set(re.findall(r"--[a-z-]+", usage)) == flags[name] - {"--help"}
+        of_watch = flags["watch"] if "option of watch" in usage.lower() else set()
+        named = set(re.findall(r"--[a-z-]+", usage)) | of_watch
+        yield f"the flags of {name}", named - {"--help"} == flags[name] - {"--help"}
     listed = [re.findall(r"(?m)^\.It (?:Cm|Fl) (.*)$", part) for part in described.split(".Sh EXIT STATUS")[0].split("The options are")]
     yield "the entries of commands", sorted(it.split()[0] for it in listed[0]) == sorted(set(flags) - {""})
     options = sorted("-" + re.search(r"-[a-z-]+", it.split(", Fl ")[-1])[0] for it in listed[1])

@@ -141,9 +141,9 @@ pub fn watch_clash(words: WatchWords<'_>) -> Option<&'static [u8]> {
     }
 }
 
-/// What is written if the options of `stop` exclude each other.
+/// What is written if the options of `stop` that say what is deleted exclude each other.
 pub fn stop_clash(words: StopWords<'_>) -> Option<&'static [u8]> {
-    if words.rospec.is_some() && words.id.is_some() {
+    if words.watch.rospec.is_some() && words.watch.id.is_some() {
         return Some(ID_TWICE);
     }
     None

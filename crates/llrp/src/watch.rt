@@ -30,13 +30,12 @@ use crate::printing::Printing;
 use crate::saving::{SAVE_LINE, Saved, Saving};
 use crate::tag_printer::TagPrinter;
 use crate::watch_plan::{
-    ALL_ANTENNAS, KEEPALIVE, MadeRoSpec, OWN_ID, open_rospec, watch_form, watch_plan,
+    ALL_ANTENNAS, KEEPALIVE, MadeRoSpec, OWN_ID, open_rospec, stop_plan, watch_form, watch_plan,
 };
 use llrp_commands::{StopWords, WatchWords};
-use llrp_endpoints::{LineForm, Plan, run_inventory, run_watching};
+use llrp_endpoints::{Plan, run_inventory, run_watching};
 use llrp_files::FAILED;
 use llrp_listing::{ToolErr, write_all};
-use llrp_schema::KindSet;
 use llrp_stream::{Input, Output, Sink, Source};
 use std::alloc::Global;
 use std::cell::Cell;
@@ -432,25 +431,25 @@ pub fn watch(rt: &HostRuntime, reader: Address<'_>, words: WatchWords<'_>) -> Re
 /// The ROSpec that the words of `stop` mean.
 fn own_rospec(words: StopWords<'_>) -> MadeRoSpec<'static> {
     MadeRoSpec {
-        id: words.id.unwrap_or(OWN_ID),
+        id: words.watch.id.unwrap_or(OWN_ID),
         antennas: ALL_ANTENNAS,
         every: 1,
         transmitter: None,
     }
 }
 
-/// Deletes the ROSpec, and returns how that ended; `None` means that the network failed.
+/// Deletes the ROSpec, and before it the AccessSpecs that these messages delete, and returns how that ended;
+/// `None` means that the network failed.
 fn stop_once(
     rt: &HostRuntime,
     reader: Address<'_>,
     words: StopWords<'_>,
+    access: Option<&Access>,
     timeout: Duration,
 ) -> Result<Option<Result<(), ToolErr>>, NoPlan> {
     let alloc = rt.alloc();
-    let plan = open_rospec(rt, alloc, words.rospec, own_rospec(words))?
-        .removing()
-        .in_form(LineForm::Full)
-        .in_set(KindSet::Standard);
+    let plan = open_rospec(rt, alloc, words.watch.rospec, own_rospec(words))?;
+    let plan = saying(alloc, stop_plan(plan), access)?;
     let mut report = Output::new(Vec::new(alloc));
     Ok(match connect(rt, reader, Some(timeout)) {
         Some(stream) => Some(take_stop(alloc, &stream, plan, &mut report)),
@@ -463,29 +462,34 @@ fn is_refused(outcome: Option<Result<(), ToolErr>>) -> bool {
     matches!(outcome, Some(Err(ToolErr::Peer(1..=3))))
 }
 
-/// Deletes the ROSpec. A reader that refuses the connection is asked again each second until the time
-/// is up.
+/// Deletes these. A reader that refuses the connection is asked again each second until the time is up.
 fn stop_within(
     rt: &HostRuntime,
     reader: Address<'_>,
     words: StopWords<'_>,
-    seconds: u16,
+    access: Option<&Access>,
 ) -> Result<Option<Result<(), ToolErr>>, NoPlan> {
+    let seconds = words.timeout.unwrap_or(PATIENCE);
     let timeout = Duration::from_secs(seconds as u64);
     for _ in 0..seconds {
-        let outcome = stop_once(rt, reader, words, timeout)?;
+        let outcome = stop_once(rt, reader, words, access, timeout)?;
         if !is_refused(outcome) {
             return Ok(outcome);
         }
         thread::sleep(rt, Duration::from_secs(1));
     }
-    stop_once(rt, reader, words, timeout)
+    stop_once(rt, reader, words, access, timeout)
 }
 
-/// Deletes the ROSpec that `watch` left on the reader, and returns the exit status.
+/// Deletes what a `watch` with the same words left on the reader, its ROSpec and the AccessSpecs that the file
+/// of --access deletes, and returns the exit status.
 pub fn stop(rt: &HostRuntime, reader: Address<'_>, words: StopWords<'_>) -> Result<u8, ToolErr> {
     let mut errors = Output::new(rt.stderr());
-    match stop_within(rt, reader, words, words.timeout.unwrap_or(PATIENCE)) {
+    let access = match Access::open(rt, rt.alloc(), words.watch.access) {
+        Ok(access) => access,
+        Err(no_access) => return refuse_access(no_access, &mut errors),
+    };
+    match stop_within(rt, reader, words, access.as_ref()) {
         Ok(outcome) => conclude(outcome, &mut errors),
         Err(no_plan) => refuse(no_plan, &mut errors),
     }

@@ -1,7 +1,7 @@
 //! The plans that the words of `watch` and `stop` ask for.
 
 ghost use Rattle.std.specs.Prelude.{◌≡◌, ◌++◌, IfOk, OnOk, Some};
-ghost use Rattle.llrp.specs.Calls.Watch.{MakesRoSpec, rospec_text, transmitter_text, watch_form, watch_plan};
+ghost use Rattle.llrp.specs.Calls.Watch.{MakesRoSpec, rospec_text, stop_plan, transmitter_text, watch_form, watch_plan};
 
 use crate::plan::{NoPlan, read_plan};
 use llrp_commands::{PlanWords, WatchWords};
@@ -149,5 +149,14 @@ pub fn watch_plan(words: WatchWords<'_>, plan: Plan) -> Plan
         .keeping(seconds * 1_000)
         .awaiting(u64::MAX)
         .in_form(watch_form(words))
+        .in_set(KindSet::Standard)
+}
+
+/// The plan that only deletes the ROSpec of this one, and takes all of LLRP 1.1.
+pub fn stop_plan(plan: Plan) -> Plan
+    ensures { result ≡ stop_plan plan }
+{
+    plan.removing()
+        .in_form(LineForm::Full)
         .in_set(KindSet::Standard)
 }

@@ -327,7 +327,26 @@ stop_gives : Gives (built_sub stop_app.top)
 stop_gives name words helpless met pass =
     let s = built_sub stop_app.top in
     let level = plain_level s refl refl words pass in
-    (word_given s _ level refl the_host refl refl, (number_given s _ level (codes "id") 1 4294967295 refl, count_given s _ level (codes "timeout") 1 refl))
+    let flag = flag_given s (rows_after s.rules [] words) level in
+    let number = number_given s (rows_after s.rules [] words) level in
+    let count = count_given s (rows_after s.rules [] words) level in (
+      word_given s _ level refl the_host refl refl,
+      (
+        (
+          number (codes "id") 1 4294967295 refl,
+          count (codes "every") 1 refl,
+          count (codes "keepalive") 0 refl,
+          count (codes "again") 1 refl,
+          flag (codes "text") refl,
+          default_given s _ level (the_longest (codes "1048576")) least_longest MOST_OCTETS refl refl (omega arith),
+          flag (codes "verbose") refl,
+          number (codes "for") 1 4294967295 refl,
+          flag (codes "messages") refl,
+          flag (codes "keys") refl,
+        ),
+        count (codes "timeout") 1 refl,
+      ),
+    )
 
 ask_gives : Gives (built_sub ask_app.top)
 ask_gives name words helpless met pass =

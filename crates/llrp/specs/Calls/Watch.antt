@@ -63,6 +63,10 @@ abbrev pub watch_plan : WatchWords → Plan → Plan
 watch_plan words plan =
     record plan { renews = true; passes = true; keepalive = unwrap_or words.keepalive KEEPALIVE * 1000; reports = 18446744073709551615; form = watch_form words; set = Standard }
 
+-- that of stop only deletes the ROSpec
+abbrev pub stop_plan : Plan → Plan
+stop_plan plan = record plan { renews = true; adds = false; form = Full; set = Standard }
+
 -- ---- lines
 
 -- A printer of this form, limit, labels and name, which began where its output had these octets, received these turns: of each it appended the lines of the

@@ -129,16 +129,19 @@ inventory_app =
 abbrev pub loop_app : App
 loop_app = app_with (codes "loop") plan_rules
 
-abbrev pub watch_app : App
-watch_app =
-    app_with (codes "watch")
-    (target_rules
+abbrev pub watch_rules : List Rule
+watch_rules =
+    target_rules
     ++ (count_rule (codes "every") ∷ number_rule (codes "keepalive") ∷ count_rule (codes "again") ∷ flag_rule (codes "text") ∷ text_option_rule (codes "antennas") ∷ longest_rule (codes "1048576")
     ∷ text_option_rule (codes "save") ∷ flag_rule (codes "verbose") ∷ long_count_rule (codes "for") ∷ text_option_rule (codes "name") ∷ text_option_rule (codes "power") ∷ flag_rule (codes "messages")
-    ∷ text_option_rule (codes "access") ∷ label_rules))
+    ∷ text_option_rule (codes "access") ∷ label_rules)
 
+abbrev pub watch_app : App
+watch_app = app_with (codes "watch") watch_rules
+
+-- it takes what watch takes, and --timeout
 abbrev pub stop_app : App
-stop_app = app_with (codes "stop") (target_rules ++ (count_rule (codes "timeout") ∷ []))
+stop_app = app_with (codes "stop") (watch_rules ++ (count_rule (codes "timeout") ∷ []))
 
 abbrev pub ask_app : App
 ask_app =
@@ -367,9 +370,9 @@ IsWatch found words =
     × HasOptionalText (codes "power") found words.power × IsFlag (flag_in (codes "messages") found) words.messages
     × HasOptionalText (codes "access") found words.access × AreTagLabels found words.labels
 
--- these are those of stop
+-- these are those of stop: of watch, and --timeout
 abbrev pub IsStop : Option (Text × List Row) → StopWords → Type 0
-IsStop found words = HasOptionalText (codes "rospec") found words.rospec × HasOptionalNumber (codes "id") found words.id × HasOptionalNumber (codes "timeout") found words.timeout
+IsStop found words = IsWatch found words.watch × HasOptionalNumber (codes "timeout") found words.timeout
 
 -- these are those of ask
 abbrev pub IsAsk : Option (Text × List Row) → AskWords → Type 0

@@ -55,9 +55,9 @@ HasWatch rows =
     × HasFlagWord (codes "text") rows × HasNumberIn least_longest MOST_OCTETS (codes "limit") rows
     × HasFlagWord (codes "verbose") rows × MayHaveLongCount (codes "for") rows × HasFlagWord (codes "messages") rows × HasFlagWord (codes "keys") rows
 
--- the numbers of stop may be there
+-- what watch has is there, and one more number may be
 abbrev pub HasStop : List Row → Type 0
-HasStop rows = MayHaveLongCount (codes "id") rows × MayHaveNumberWord (codes "timeout") rows
+HasStop rows = HasWatch rows × MayHaveNumberWord (codes "timeout") rows
 
 -- the file and the flags of ask are there, and its number may be
 abbrev pub HasAsk : List Row → Type 0

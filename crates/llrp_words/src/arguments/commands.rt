@@ -11,9 +11,9 @@ use super::help::{
     ENCODE_HELP, EPC_HELP, EXPLAIN_HELP, FIELDS_HELP, INVENTORY_HELP, LOOP_HELP, SHOW_HELP,
     SIM_HELP,
 };
-use super::rows::command;
+use super::rows::{argument, command};
 use super::tables::{
-    ACCESS, ASK, ENCODE, EPC, EXPLAIN, FIELDS, INVENTORY, LOOP, SHOW, SIM, STOP, WATCH,
+    ACCESS, ASK, ENCODE, EPC, EXPLAIN, FIELDS, INVENTORY, LOOP, SHOW, SIM, STOP_TIMEOUT, WATCH,
 };
 use super::watch_help::{STOP_HELP, WATCH_HELP};
 use clap::Command;
@@ -116,13 +116,14 @@ fn watch_command<'a>(alloc: Global) -> Result<Command<'a>, AllocError>
     command(alloc, "watch", about, WATCH_HELP, &WATCH)
 }
 
-/// The command `stop`.
+/// The command `stop`, which takes what `watch` takes.
 fn stop_command<'a>(alloc: Global) -> Result<Command<'a>, AllocError>
     ensures app { IfOk result (λ c. app_of c ≡ stop_app) }
     ensures local { IfOk result (λ c. (out-Command c).has_globals ≡ false) }
 {
     let about = "Delete the ROSpec that watch left on a reader";
-    command(alloc, "stop", about, STOP_HELP, &STOP)
+    let as_watch = command(alloc, "stop", about, STOP_HELP, &WATCH)?;
+    as_watch.arg(argument(alloc, STOP_TIMEOUT))
 }
 
 /// The command `ask`.

@@ -44,7 +44,7 @@ pub(super) struct Row {
 }
 
 /// The argument that a row says.
-fn argument<'a>(alloc: Global, row: Row) -> Arg<'a>
+pub(super) fn argument<'a>(alloc: Global, row: Row) -> Arg<'a>
     ensures rule { rule_of result ≡ rule row }
     ensures local { result.global ≡ false }
 {

@@ -453,29 +453,12 @@ pub(super) const WATCH: [Row; 18] = [
     },
 ];
 
-/// The arguments of `stop`.
-pub(super) const STOP: [Row; 4] = [
-    Row {
-        name: "HOST",
-        takes: Takes::NeededPlace,
-        help: "The reader's name or address, or HOST:PORT; the port is 5084 without one",
-    },
-    Row {
-        name: "rospec",
-        takes: Takes::Text("FILE"),
-        help: "Take the ROSpec of this file, in place of one with all antennas",
-    },
-    Row {
-        name: "id",
-        takes: Takes::Number("N", 1, 4_294_967_295),
-        help: "The id of its ROSpec; without it 5084",
-    },
-    Row {
-        name: "timeout",
-        takes: Takes::Number("SECONDS", 1, 65_535),
-        help: "How long the reader may be silent; without it 5",
-    },
-];
+/// What `stop` takes beside the arguments of `watch`.
+pub(super) const STOP_TIMEOUT: Row = Row {
+    name: "timeout",
+    takes: Takes::Number("SECONDS", 1, 65_535),
+    help: "How long the reader may be silent; without it 5",
+};
 
 /// The arguments of `ask`.
 pub(super) const ASK: [Row; 6] = [

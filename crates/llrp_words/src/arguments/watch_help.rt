@@ -54,5 +54,9 @@ Connects to an LLRP reader, deletes the ROSpec with the id N, or with that of FI
 connection. The status is 0 whether the reader had such a ROSpec or not. A reader that refuses the
 connection, as it still has another one, is asked again until SECONDS have passed.
 
+It takes what watch takes, so that a service gives both the same words. --rospec, --id and --access say
+what is deleted: with --access, before the ROSpec, each AccessSpec that a message of its FILE deletes. All
+others are passed over, and the file of --save is not opened.
+
 Example:
   $ llrp stop reader.example";

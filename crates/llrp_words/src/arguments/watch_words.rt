@@ -48,13 +48,11 @@ pub struct WatchWords<'a> {
     pub labels: LabelWords<'a>,
 }
 
-/// What the words say of a ROSpec that is to be deleted.
+/// What the words say of a client that deletes what a `watch` with the same words left.
 #[derive(Clone, Copy, Debug, PartialEq, Eq)]
 pub struct StopWords<'a> {
-    /// The path of the file with the ROSpec.
-    pub rospec: Option<&'a str>,
-    /// The id of the ROSpec if there is no file.
-    pub id: Option<u32>,
+    /// The words of that `watch`.
+    pub watch: WatchWords<'a>,
     /// For how many seconds the reader may be silent.
     pub timeout: Option<u16>,
 }
@@ -120,8 +118,7 @@ pub(super) fn stop_words<'a>(inner: &ArgMatches<'a>) -> StopWords<'a>
     ensures { (name : List ℕ) → IsStop (Some (name, rows_of (found_of inner.now))) result }
 {
     StopWords {
-        rospec: optional_text(inner, "rospec"),
-        id: optional_long_count(inner, "id"),
+        watch: watch_words(inner),
         timeout: optional_number(inner, "timeout"),
     }
 }
