@@ -1,7 +1,8 @@
 #!/usr/bin/env bash
-# Builds llrp and the library for C if need be, and installs below PREFIX (/usr/local) the program, llrp-capture, their manual pages,
-# completions, the unit for systemd, the examples, and the pages that the help names; the library, its header, its manual page and what pkg-config says of
-# it; and the package for Python with its commands, in the folder where Debian's python3 finds it below /usr. With --uninstall it removes these files.
+# Builds llrp and the library for C if need be, and installs below PREFIX (/usr/local) the program, llrp-capture, their manual pages, completions,
+# the units for systemd and what they run, the examples, and the pages that the help names; the library, its header, its manual page and what
+# pkg-config says of it; and the package for Python with its commands, in the folder where Debian's python3 finds it below /usr. With --uninstall it
+# removes these files.
 #
 #     ./install.sh
 #     PREFIX=~/.local ./install.sh
@@ -38,18 +39,32 @@ done
 for command in llrp-conform llrp-makers llrp-xml; do
     files+=("755 python/bin/$command bin/$command" "644 docs/$command.1 share/man/man1/$command.1")
 done
-for page in capture client conform errors json makers recipes sim tables xml; do
+for page in capture client conform errors json library makers recipes service sim tables xml; do
     files+=("644 docs/$page.md share/doc/llrp/$page.md")
 done
-for example in add_rospec.xml inventory.pcap inventory.script keepalive.hex makers.script report.hex report.txt requests.txt rospec.txt \
-    seen.awk shift.txt sightings.script tid.access two_antennas.rospec c/tags.c python/async_client.py python/client.py; do
+for example in add_rospec.xml answers explain.py fault.hex inventory.pcap inventory.script keepalive.hex makers.script report.hex report.txt \
+    requests.txt rospec.txt seen.awk shift.txt sightings.script tid.access two_antennas.rospec c/seen.c c/tags.c python/async_client.py \
+    python/client.py python/test_client.py sinks/kafka sinks/queries.sql sinks/schema.sql sinks/web; do
     files+=("644 examples/$example share/doc/llrp/examples/$example")
 done
-# The link by which cc finds the library, and what is written anew: what pkg-config says of the library, and the unit, with the program's
-# path.
+# The services: what runs them, and the commands that pass tags on.
+files+=(
+    "644 examples/systemd/llrp-day.service lib/systemd/system/llrp-day.service"
+    "644 examples/systemd/llrp-day.timer lib/systemd/system/llrp-day.timer"
+    "644 examples/systemd/sysusers.conf lib/sysusers.d/llrp.conf"
+    "755 examples/systemd/llrp-forward lib/llrp/llrp-forward"
+    "755 examples/sinks/broker lib/llrp/forward/broker"
+    "755 examples/sinks/database lib/llrp/forward/database"
+)
+# Files that are written with PREFIX in the place of /usr/local: their names here and below PREFIX.
+written=(
+    "examples/systemd/llrp-watch@.service lib/systemd/system/llrp-watch@.service"
+    "examples/systemd/llrp-forward@.service lib/systemd/system/llrp-forward@.service"
+    "examples/systemd/tmpfiles.conf lib/tmpfiles.d/llrp.conf"
+)
+# The link by which cc finds the library, and what pkg-config says of the library.
 link=lib/libllrp_c.so
 configuration=lib/pkgconfig/llrp.pc
-unit=lib/systemd/system/llrp-watch@.service
 
 # Removes what is installed.
 uninstall() {
@@ -58,11 +73,16 @@ uninstall() {
         read -r _ _ name <<<"$line"
         rm -f "$to/$name"
     done
-    rm -f "$to/$link" "$to/$configuration" "$to/$unit"
+    for line in "${written[@]}"; do
+        rm -f "$to/${line#* }"
+    done
+    rm -f "$to/$link" "$to/$configuration"
     # What Python compiled goes too.
     rm -rf "$to/$package/__pycache__"
     [ ! -d "$to/$package" ] || rmdir --ignore-fail-on-non-empty "$to/$package"
-    [ ! -d "$to/share/doc/llrp" ] || find "$to/share/doc/llrp" -depth -type d -empty -delete
+    for name in share/doc/llrp lib/llrp; do
+        [ ! -d "$to/$name" ] || find "$to/$name" -depth -type d -empty -delete
+    done
     echo "llrp: removed below $to"
 }
 
@@ -73,8 +93,12 @@ install_all() {
         read -r mode from name <<<"$line"
         install -D -m "$mode" "$top/$from" "$to/$name"
     done
-    ln -sf libllrp_c.so.0 "$to/$link"
-    sed "s|/usr/local/bin/llrp|$prefix/bin/llrp|" "$top/examples/systemd/llrp-watch@.service" | install -D -m 644 /dev/stdin "$to/$unit"
+    # (a link to a folder is replaced, and a folder is an error)
+    ln -sfT libllrp_c.so.0 "$to/$link"
+    for line in "${written[@]}"; do
+        read -r from name <<<"$line"
+        sed "s|/usr/local|$prefix|g" "$top/$from" | install -D -m 644 /dev/stdin "$to/$name"
+    done
     install -D -m 644 /dev/stdin "$to/$configuration" <<END
 prefix=$prefix
 libdir=\${prefix}/lib
@@ -100,6 +124,13 @@ case $prefix in
     /*) ;;
     *)
         echo "llrp: PREFIX has to begin with /: $prefix" >&2
+        exit 2
+        ;;
+esac
+# (units, shells and pkg-config read other characters as words of their own)
+case $prefix in
+    *[!A-Za-z0-9/._+,:@=~-]*)
+        echo "llrp: PREFIX may have letters, digits and / . _ + , : @ = ~ - alone: $prefix" >&2
         exit 2
         ;;
 esac

@@ -78,6 +78,28 @@ add_documents llrp 'NEWS.gz has what changed.'
 for package in libllrp-c0 libllrp-c-dev python3-llrp-epc; do
     add_documents "$package"
 done
+mkdir "$work/llrp/DEBIAN"
+# The user and the folders of the services, by systemd's own tools, where these are there. (Where /var/log/llrp is a link, as services of version 0.1
+# left it, docs/service.md says what to do.)
+cat >"$work/llrp/DEBIAN/postinst" <<'END'
+#!/bin/sh
+set -e
+if [ "$1" = configure ] && command -v systemd-sysusers >/dev/null && command -v systemd-tmpfiles >/dev/null; then
+    systemd-sysusers ${DPKG_ROOT:+--root="$DPKG_ROOT"} llrp.conf
+    systemd-tmpfiles ${DPKG_ROOT:+--root="$DPKG_ROOT"} --create llrp.conf || true
+fi
+if [ -z "${DPKG_ROOT:-}" ] && [ -d /run/systemd/system ]; then
+    systemctl daemon-reload || true
+fi
+END
+cat >"$work/llrp/DEBIAN/prerm" <<'END'
+#!/bin/sh
+set -e
+if [ "$1" = remove ] && [ -z "${DPKG_ROOT:-}" ] && [ -d /run/systemd/system ]; then
+    systemctl stop llrp-day.timer 'llrp-watch@*.service' 'llrp-forward@*.service' || true
+fi
+END
+chmod 755 "$work/llrp/DEBIAN/postinst" "$work/llrp/DEBIAN/prerm"
 mkdir "$work/libllrp-c0/DEBIAN"
 echo "libllrp_c 0 libllrp-c0 (>= $version)" >"$work/libllrp-c0/DEBIAN/shlibs"
 echo 'activate-noawait ldconfig' >"$work/libllrp-c0/DEBIAN/triggers"
@@ -86,7 +108,7 @@ pack llrp "$architecture" <<END
 Section: utils
 Depends: libc6 (>= 2.34)
 Recommends: tshark
-Suggests: libllrp-c-dev, python3-llrp-epc
+Suggests: libllrp-c-dev, python3-llrp-epc, systemd, postgresql-client, mosquitto-clients
 Description: tags and messages of RFID readers, by a proved program
  Lists streams of the Low Level Reader Protocol 1.1 as text and turns the text
  back into the stream, converts tags of the EPC Tag Data Standard 1.13, stands

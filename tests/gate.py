@@ -13,7 +13,7 @@ from parts.counting import finish_results, text_of
 from parts.repository import TOP
 
 # How many scripts there are, with the two lists of them.
-LEAST = 42 + 2
+LEAST = 43 + 2
 
 
 def scripts_there():

@@ -1,9 +1,11 @@
 #!/usr/bin/env python3
-"""Makes the packages for Debian, and uses what they hold in an empty root: the program, the library from C, and the package for Python.
+"""Makes the packages for Debian, and uses what they hold in an empty root: the program, the library from C, the package for Python, and the services,
+by the command lines of their units, from a simulated reader to rows of a table.
 
 usage: tests/package.py
 
-It needs cc, ar, strip, dpkg-deb, lintian and pkg-config. The last line is `N passed, M failed`; the status is 1 if something failed.
+It needs cc, ar, strip, dpkg-deb, lintian, pkg-config, postgresql and systemd, and to be root for the services. The last line is `N passed, M failed`;
+the status is 1 if something failed.
 """
 import gzip
 import os
@@ -13,10 +15,12 @@ import sys
 import tempfile
 
 from parts.counting import finish_results, text_of
+from parts.ports import free_port, listens_at, wait_until
 from parts.repository import TOP
+from parts.sites import Site, end, tags_in
 
 # How many things are checked.
-LEAST = 61
+LEAST = 68
 TAG, WORD = "urn:epc:tag:sgtin-96:3.0614141.812345.6789", "3074257BF7194E4000001A85"
 # The newest version of the C library whose functions may be needed: that of `Depends`.
 GLIBC = (2, 34)
@@ -63,14 +67,15 @@ def unzipped(path):
 
 
 def checks_of_control(name, package, root):
-    """Yields whether a package says of itself what it has to say, and has no script that runs when it is installed."""
+    """Yields whether a package says of itself what it has to say, and has no script that runs when it is installed but those of the services."""
     version = re.search(r'const VERSION: &str = "([^"]+)"', text_of("crates/llrp_words/src/arguments/commands.rt"))[1]
     architecture = "all" if name.startswith("python3-") else output_of("dpkg", "--print-architecture")
     yield f"the name of {name}", os.path.basename(package) == f"{name}_{version}_{architecture}.deb"
     output_of("dpkg-deb", "-e", package, os.path.join(root, "DEBIAN"))
     control = {it: text_of(f"{root}/DEBIAN/{it}") for it in os.listdir(f"{root}/DEBIAN") if it not in ("control", "md5sums")}
     shared = {"triggers": "activate-noawait ldconfig\n", "shlibs": f"libllrp_c 0 libllrp-c0 (>= {version})\n"}
-    yield f"what {name} has besides its files", control == (shared if name == "libllrp-c0" else {})
+    scripts = {it: control[it] for it in ("postinst", "prerm") if it in control} if name == "llrp" else {}
+    yield f"what {name} has besides its files", control == (shared if name == "libllrp-c0" else scripts) and len(scripts) == 2 * (name == "llrp")
     section, depends, _ = PACKAGES[name]
     how = {"name": name, "version": version, "architecture": architecture, "maintainer": MAINTAINER, "section": section}
     wanted = FIELDS.format(**how, depends=depends.format(version=version), size=output_of("du", "-sk", f"{root}/usr").split()[0])
@@ -93,7 +98,8 @@ def checks_of_files(name, package, root):
     yield f"the files of {name}: {wrong}", files and not wrong
     listed = [line.split(maxsplit=5) for line in output_of("dpkg-deb", "-c", package).splitlines()]
     wanted = {"d": "drwxr-xr-x", "x": "-rwxr-xr-x", "l": "lrwxrwxrwx", "-": "-rw-r--r--"}
-    kinds = [("d" if it[-1].endswith("/") else "x" if it[-1].startswith("./usr/bin/") else "l" if " -> " in it[-1] else "-") for it in listed]
+    runs = ("./usr/bin/", "./usr/lib/llrp/")
+    kinds = [("d" if it[-1].endswith("/") else "x" if it[-1].startswith(runs) else "l" if " -> " in it[-1] else "-") for it in listed]
     wrong = [(mode, it) for kind, (mode, _, _, _, _, it) in zip(kinds, listed) if mode != wanted[kind]]
     yield f"the modes of the files of {name}: {wrong}", not wrong
     yield f"the owners of the files of {name}", {owner for _, owner, *_ in listed} == {"root/root"}
@@ -114,7 +120,8 @@ def checks_of_binaries(root):
 
 
 def named_files(root):
-    """Returns the pages and examples that the program's help, its hints and the manual pages name, and the commands."""
+    """Returns the pages and examples that the program's help, its hints and the manual pages name, with the examples that the installed pages name, and
+    the commands."""
     program = f"{root}/usr/bin/llrp"
     commands = re.findall(r"(?m)^  (\w+) ", output_of(program, "--help").split("Commands:\n")[1].split("\n\n")[0])
     texts = [output_of(program, it, "--help") for it in commands if it != "help"]
@@ -122,7 +129,53 @@ def named_files(root):
     texts += [unzipped(f"{root}/usr/share/man/man1/{it}") for it in sorted(os.listdir(f"{root}/usr/share/man/man1"))]
     text = "\n".join(texts)
     documents = set(re.findall(r"docs/(\w+\.md)|\b(examples/[\w./]+\w)|\.Pa (\w+\.md)", text))
-    return {it for found in documents for it in found if it}, set(re.findall(r"\bllrp-\w+", text.replace("\\-", "-")))
+    folder = f"{root}/usr/share/doc/llrp"
+    pages = "".join(text_of(f"{folder}/{it}") for it in os.listdir(folder) if it.endswith(".md"))
+    examples = set(re.findall(r"\bexamples/(?:\w+/)*\w+(?:\.\w+)?", pages))
+    return examples | {it for found in documents for it in found if it}, set(re.findall(r"\bllrp-\w+", text.replace("\\-", "-")))
+
+
+def installed(package, folder):
+    """Returns an empty root into which dpkg has installed a package, with its scripts."""
+    root = os.path.join(folder, "clean")
+    for it in ("etc", "var/lib/dpkg/info", "var/lib/dpkg/updates", "var/lib/dpkg/triggers"):
+        os.makedirs(os.path.join(root, it))
+    with open(f"{root}/var/lib/dpkg/status", "w", encoding="ascii"):
+        pass
+    output_of("dpkg", f"--root={root}", "--force-script-chrootless", "--force-depends", "-i", package)
+    return root
+
+
+def checks_of_services(package, folder):
+    """Yields whether an installed package has what its services need, and these bring the tags of a simulated reader into a table."""
+    root = installed(package, folder)
+    yield "the user of the services", re.search(r"(?m)^llrp:x:\d+:\d+:[^:]*:/var/lib/llrp:", text_of(f"{root}/etc/passwd"))
+    modes = {it: oct(os.stat(f"{root}/{it}").st_mode)[-3:] for it in ("etc/llrp", "etc/llrp/forward", "var/log/llrp", "var/lib/llrp")}
+    yield f"the folders of the services: {modes}", list(modes.values()) == ["755", "755", "750", "750"]
+    commands = {it: text_of(f"{root}/etc/llrp/forward/{it}") == text_of(f"examples/sinks/{it}") for it in os.listdir(f"{root}/etc/llrp/forward")}
+    yield f"the commands of the services: {commands}", commands == {"broker": True, "database": True}
+    places = {name: root + name for name in ("/usr/bin/llrp", "/usr/lib/llrp", "/etc/llrp/forward")}
+    with tempfile.TemporaryDirectory() as work:
+        os.chmod(folder, 0o755)
+        site = Site(work, f"{root}/usr/lib/systemd/system", places)
+        try:
+            site.begin_database(f"{root}/usr/share/doc/llrp/examples/sinks/schema.sql")
+            port, script = free_port(), "started+0s every 50ms for 2s seen 1 -60 urn:epc:tag:gid-96:1.2.3\n"
+            reader = site.begin(["sh", "-c", f"printf '{script}' | '{root}/usr/bin/llrp' sim {port} --clock real --clients 0"])
+            wait_until(lambda: listens_at(port), 20, "sim listens")
+            watching = site.watch(port, OPTIONS="--antennas 1")
+            site.forward("database")
+            wait_until(lambda: int(site.psql("-c", "select count(*) from tags")) == 40, 20, "rows")
+            end(watching)
+            ended = site.after_watch(port, OPTIONS="--antennas 1")
+            end(reader)
+            files = [os.path.join(site.logs, it) for it in os.listdir(site.logs)]
+            yield "rows of a table", list(tags_in(files).values()) == [40] and site.psql("-c", "select distinct reader, epc from tags") == "dock1|urn:epc:tag:gid-96:1.2.3\n"
+            yield f"the end of the service: {ended}", ended == [(0, ""), (0, "")]
+        finally:
+            site.close()
+    output_of("dpkg", f"--root={root}", "--force-script-chrootless", "-r", "llrp")
+    yield "what is left where it is removed", not os.path.exists(f"{root}/usr") and os.path.exists(f"{root}/etc/llrp")
 
 
 def checks(packages, folder):
@@ -150,6 +203,7 @@ def checks(packages, folder):
     yield f"what the help, the hints and the manual name is there but {missing}", len(named) > 8 and not missing
     missing = {it for it in commands if not os.path.exists(f"{root}/usr/bin/{it}")}
     yield f"the commands that they name are there but {missing}", len(commands) > 3 and not missing
+    yield from checks_of_services(packages[0], folder)
 
     version = output_of("dpkg-deb", "-f", packages[0], "Version")
     yield "the program runs", output_of(f"{root}/usr/bin/llrp", "--version") == f"llrp {version}"

@@ -22,7 +22,7 @@ import time
 from parts.counting import finish_results, text_of
 from parts.repository import TOP, program_given
 
-LEAST = 185
+LEAST = 185 + 36
 # What stubs of the toolchain do: each notes where and with which words it is called; then it proves and links, or fails in one of these.
 CALLED = 'echo "${PWD##*/} $*" >>"$(dirname "$0")/calls"\n'
 LINKS = 'mkdir -p out; printf "#!/bin/sh\\necho built \\$*; exit 5" >out/${PWD##*/}; chmod +x out/${PWD##*/}'
@@ -50,6 +50,7 @@ MODULES = (
     " standard.tsv test_conform.py"
 )
 COMMANDS = ("llrp-conform", "llrp-makers", "llrp-xml")
+PAGES = "capture client conform errors json library makers recipes service sim tables xml"
 # Where install.sh puts each file.
 INSTALLED = {
     "bin/llrp": "crates/llrp/out/llrp",
@@ -64,18 +65,34 @@ INSTALLED = {
     "share/man/man1/llrp.1": "docs/llrp.1",
     "share/man/man1/llrp-capture.1": "docs/llrp-capture.1",
     "share/man/man3/llrp.3": "docs/llrp.3",
-    **{f"share/doc/llrp/{it}.md": f"docs/{it}.md" for it in ("capture", "client", "conform", "errors", "json", "makers", "recipes", "sim", "tables", "xml")},
+    **{f"share/doc/llrp/{it}.md": f"docs/{it}.md" for it in PAGES.split()},
     "share/bash-completion/completions/llrp": "completions/llrp.bash",
     "share/zsh/site-functions/_llrp": "completions/_llrp",
     "share/fish/vendor_completions.d/llrp.fish": "completions/llrp.fish",
 }
 EXAMPLES = (
-    "add_rospec.xml c/tags.c inventory.pcap inventory.script keepalive.hex makers.script python/async_client.py python/client.py report.hex"
-    " report.txt requests.txt rospec.txt seen.awk shift.txt sightings.script tid.access two_antennas.rospec"
+    "add_rospec.xml answers c/seen.c c/tags.c explain.py fault.hex inventory.pcap inventory.script keepalive.hex makers.script python/async_client.py"
+    " python/client.py python/test_client.py report.hex report.txt requests.txt rospec.txt seen.awk shift.txt sightings.script sinks/kafka"
+    " sinks/queries.sql sinks/schema.sql sinks/web tid.access two_antennas.rospec"
 )
 INSTALLED |= {f"share/doc/llrp/examples/{it}": f"examples/{it}" for it in EXAMPLES.split()}
-# What install.sh writes itself: what pkg-config says, and the unit with the program's path.
-MADE, UNIT = "lib/pkgconfig/llrp.pc", "lib/systemd/system/llrp-watch@.service"
+INSTALLED |= {
+    "lib/systemd/system/llrp-day.service": "examples/systemd/llrp-day.service",
+    "lib/systemd/system/llrp-day.timer": "examples/systemd/llrp-day.timer",
+    "lib/sysusers.d/llrp.conf": "examples/systemd/sysusers.conf",
+    "lib/llrp/llrp-forward": "examples/systemd/llrp-forward",
+    "lib/llrp/forward/broker": "examples/sinks/broker",
+    "lib/llrp/forward/database": "examples/sinks/database",
+}
+# What install.sh writes itself: what pkg-config says, and files with PREFIX in the place of /usr/local.
+MADE = "lib/pkgconfig/llrp.pc"
+WRITTEN = {
+    "lib/systemd/system/llrp-watch@.service": "examples/systemd/llrp-watch@.service",
+    "lib/systemd/system/llrp-forward@.service": "examples/systemd/llrp-forward@.service",
+    "lib/tmpfiles.d/llrp.conf": "examples/systemd/tmpfiles.conf",
+}
+# Values of PREFIX with what a unit, a shell or pkg-config would read as a word of its own.
+ODD_PREFIXES = ("/tmp/llrp a", "/tmp/llrp|a", "/tmp/llrp&a", "/tmp/llrp\\a", "/tmp/llrp%a", "/tmp/llrp$a", "/tmp/llrp'a", '/tmp/llrp"a', "/tmp/llrp\na", "/tmp/llrp;a")
 CONFIGURATION = """\
 prefix={prefix}
 libdir=${{prefix}}/lib
@@ -387,40 +404,64 @@ def below(folder):
 
 def wanted_mode(path, name):
     """Returns the mode that an installed file or folder has to have."""
-    return 0o755 if os.path.isdir(path) or name.startswith("bin/") else 0o644
+    return 0o755 if os.path.isdir(path) or name.startswith(("bin/", "lib/llrp/")) else 0o644
 
 
 def checks_of_install(folder):
     """Yields whether install.sh puts each file below PREFIX, as it is and readable for all, and no other, and removes them again."""
-    prefix = os.path.join(folder, "prefix")
+    with tempfile.TemporaryDirectory(dir="/tmp", prefix="llrp.") as plain:
+        yield from checks_of_prefix(os.path.join(plain, "prefix"))
+    for prefix in ODD_PREFIXES:
+        status, out, err = run("./install.sh", PREFIX=prefix)
+        yield f"install.sh below {prefix!r}", (status, out) == (2, "") and err.startswith("llrp: PREFIX may have letters") and not os.path.exists(prefix)
+    for where, below_it in (("/usr", "/usr"), ("", "/usr/local")):
+        package = tempfile.mkdtemp(dir=folder)
+        done = run("./install.sh", DESTDIR=package, PREFIX=where)[:2]
+        is_there = os.path.exists(f"{package}{below_it}/bin/llrp") and f"prefix={below_it}\n".encode() in octets_of(f"{package}{below_it}/{MADE}")
+        yield f"install.sh into a package, below {below_it}", done == (0, f"llrp: installed below {package}{below_it}\n") and is_there
+    yield from checks_of_link(tempfile.mkdtemp(dir=folder))
+
+
+def checks_of_link(package):
+    """Yields whether install.sh puts the library's link in the place of a link to a folder, writes nothing into that, and ends where a folder is there."""
+    os.makedirs(f"{package}/usr/lib/other")
+    link = f"{package}/usr/lib/libllrp_c.so"
+    os.symlink("other", link)
+    done = run("./install.sh", DESTDIR=package, PREFIX="/usr")
+    yield "install.sh over a link to a folder", done[0] == 0 and os.readlink(link) == "libllrp_c.so.0" and not os.listdir(f"{package}/usr/lib/other")
+    os.remove(link)
+    os.mkdir(link)
+    done = run("./install.sh", DESTDIR=package, PREFIX="/usr")
+    yield "install.sh over a folder", done[:2] == (1, "") and not os.listdir(link)
+
+
+def checks_of_prefix(prefix):
+    """Yields the same of one value of PREFIX, and what is removed again."""
     done = run("bash", "-c", "umask 077; CDPATH=/usr ./install.sh", PREFIX=prefix)
     yield "install.sh", done[:2] == (0, f"llrp: installed below {prefix}\n")
     found = below(prefix)
     files = {it for it in found if not os.path.isdir(os.path.join(prefix, it))}
-    yield f"the files of install.sh: {files ^ {*INSTALLED, MADE, UNIT}}", files == {*INSTALLED, MADE, UNIT}
+    wanted = {*INSTALLED, MADE, *WRITTEN}
+    yield f"the files of install.sh: {files ^ wanted}", files == wanted
     for name in sorted(found):
         path = os.path.join(prefix, name)
         is_right = os.stat(path).st_mode & 0o7777 == wanted_mode(path, name)
         yield f"installed {name}", is_right and (name not in INSTALLED or octets_of(path) == octets_of(os.path.join(TOP, INSTALLED[name])))
     yield "the installed link", os.readlink(os.path.join(prefix, "lib/libllrp_c.so")) == "libllrp_c.so.0"
     yield "what pkg-config says", octets_of(os.path.join(prefix, MADE)).decode() == CONFIGURATION.format(prefix=prefix, version=version())
-    unit = text_of("examples/systemd/llrp-watch@.service").replace("/usr/local/bin/llrp", f"{prefix}/bin/llrp")
-    yield "the installed unit", octets_of(os.path.join(prefix, UNIT)).decode() == unit
+    for name, source in WRITTEN.items():
+        wanted = text_of(source).replace("/usr/local", prefix)
+        yield f"the installed {name}", octets_of(os.path.join(prefix, name)).decode() == wanted and prefix in wanted
     yield "the installed program runs", run(os.path.join(prefix, "bin/llrp"), "--version")[0] == 0
     status, out, err = run("./install.sh", PREFIX=os.path.join(prefix, "bin/llrp"))
     yield "install.sh, where PREFIX is no folder", status != 0 and out == "" and err != ""
     os.mkdir(f"{prefix}/{PACKAGE}/__pycache__")
     yield "install.sh --uninstall", run("./install.sh", "--uninstall", PREFIX=prefix) == (0, f"llrp: removed below {prefix}\n", "")
-    left = {it for it in below(prefix) if not os.path.isdir(os.path.join(prefix, it)) or "doc/llrp" in it or PACKAGE in it}
+    left = {it for it in below(prefix) if not os.path.isdir(os.path.join(prefix, it)) or "doc/llrp" in it or "lib/llrp" in it or PACKAGE in it}
     yield f"what install.sh --uninstall leaves: {left}", not left
     for words, where in ((["--remove"], prefix), ([], "usr"), ([], "./usr")):
         status, out, err = run("./install.sh", *words, PREFIX=where)
         yield f"install.sh {words} {where}", (status, out, err.count("\n")) == (2, "", 1) and not os.path.exists(os.path.join(TOP, "usr"))
-    for where, below_it in (("/usr", "/usr"), ("", "/usr/local")):
-        package = tempfile.mkdtemp(dir=folder)
-        done = run("./install.sh", DESTDIR=package, PREFIX=where)[:2]
-        is_there = os.path.exists(f"{package}{below_it}/bin/llrp") and f"prefix={below_it}\n".encode() in octets_of(f"{package}{below_it}/{MADE}")
-        yield f"install.sh into a package, below {below_it}", done == (0, f"llrp: installed below {package}{below_it}\n") and is_there
 
 
 def are_right(lines, names, figures):

@@ -1,16 +1,13 @@
 #!/usr/bin/env python3
-"""Runs the recipes of docs/recipes.md, and compares what they print with what the page shows; has systemd verify the unit file, and runs
-what it says; and runs the examples of clients in Python with every octet of their connection apart and with a KEEPALIVE between any two
-frames, and against readers that refuse a request.
+"""Runs the recipes of docs/recipes.md, and compares what they print with what the page shows; and runs the examples of clients in Python
+with every octet of their connection apart and with a KEEPALIVE between any two frames, and against readers that refuse a request.
 
 usage: tests/recipes.py PROGRAM
 
 PROGRAM is llrp. The recipe of live traffic is left out for a user who may not capture. It needs mosquitto, mosquitto-clients, jq, sqlite3,
-postgresql, gnuplot, stunnel4, openssl, parallel, tshark, xxd and systemd. The last line is `N passed, M failed`; the status is 1 if something failed or too little
+postgresql, gnuplot, stunnel4, openssl, parallel, tshark and xxd. The last line is `N passed, M failed`; the status is 1 if something failed or too little
 was run.
 """
-import contextlib
-import json
 import os
 import re
 import shlex
@@ -21,7 +18,6 @@ import subprocess
 import sys
 import tempfile
 import threading
-import time
 
 from parts.counting import finish, text_of
 from documents import AWAIT, MARK, examples
@@ -34,7 +30,6 @@ PAGE = "docs/recipes.md"
 COMMANDS = 84
 # How long a recipe may take, in seconds.
 LONGEST = 120
-UNIT = "examples/systemd/llrp-watch@.service"
 # A KEEPALIVE of the reader, and the answer to it.
 KEEPALIVE, ANSWER = bytes.fromhex("043E0000000A00000063"), bytes.fromhex("04480000000A00000063")
 
@@ -121,88 +116,6 @@ def run_page(program):
             printed = printed_by(script_of(commands), folder, captures(block))
         for (command, wanted), found in zip(block, [*printed, *[""] * len(block)]):
             yield command, found.splitlines(), wanted
-
-
-def unit_is_verified():
-    """Returns whether systemd finds nothing wrong with the unit file, with a program that is there."""
-    with tempfile.TemporaryDirectory() as folder:
-        unit = os.path.join(folder, os.path.basename(UNIT))
-        with open(os.path.join(TOP, UNIT), encoding="utf-8") as lines, open(unit, "w", encoding="utf-8") as copy:
-            copy.write(lines.read().replace("/usr/local/bin/llrp", "/bin/true"))
-        done = subprocess.run(["systemd-analyze", "verify", unit], capture_output=True, text=True)
-    return done.returncode == 0 and not done.stderr
-
-
-def words_of_unit():
-    """Returns the sections of the unit file, each with its keys and values in order."""
-    sections = re.findall(r"(?ms)^\[(\w+)\]\n(.*?)(?=^\[|\Z)", text_of(UNIT))
-    return {name: [tuple(line.split("=", 1)) for line in body.splitlines() if "=" in line and not line.startswith("#")] for name, body in sections}
-
-
-def unit_is_as_told():
-    """Returns whether the unit file has the keys that it should, and the page says of it what it has."""
-    service = dict(words_of_unit()["Service"])
-    command, stop = service.pop("ExecStart"), service.pop("ExecStopPost")
-    wanted = {"Environment": "ROSPEC=", "EnvironmentFile": "/etc/llrp/%i", "LogsDirectory": "llrp", "DynamicUser": "yes"}
-    wanted |= {"Restart": "always", "RestartSec": "5"}
-    page = " ".join(text_of(PAGE).split())
-    told = ["systemctl enable --now llrp-watch@dock1", "/etc/llrp/dock1", "`/var/log/llrp/dock1` gets its tags"]
-    pause = re.search(r"--again (\d+)|$", command)[1]
-    told += [f"again {wanted['RestartSec']} seconds", f"no later than {pause} seconds"]
-    is_right = '>>"$$LOGS_DIRECTORY/%i"' in command and stop == "/usr/local/bin/llrp stop ${HOST} $ROSPEC"
-    return service == wanted and is_right and all(it in page for it in told)
-
-
-def commands_of_unit(program):
-    """Returns what the unit file runs and runs at the end, with this program, for the instance dock1."""
-    service = dict(words_of_unit()["Service"])
-    words = re.fullmatch(r"/bin/sh -c '(.*)'", service["ExecStart"])[1].replace("$$", "$").replace("%i", "dock1")
-    return [it.replace("/usr/local/bin/llrp", shlex.quote(program)) for it in (words, service["ExecStopPost"])]
-
-
-def unit_works(program):
-    """Returns whether what the unit file runs writes each tag of a simulated reader as a line of JSON into its file, before it ends, and
-    whether what it runs then ends well."""
-    port = free_port()
-    # (DELETE_ROSPEC and SET_READER_CONFIG come before the three requests of `inventory`)
-    script = re.sub(r"(?m)^3 ", "5 ", text_of("examples/inventory.script"))
-    seen = [line.split() for line in script.splitlines()]
-    wanted = [{"epc": text, "antenna": int(antenna), "rssi": int(rssi)} for _, _, _, antenna, rssi, text in seen]
-    with tempfile.TemporaryDirectory() as folder:
-        log = os.path.join(folder, "dock1")
-        reader = simulated(program, port, script)
-        environment = {**os.environ, "HOST": f"127.0.0.1:{port}", "ROSPEC": "", "LOGS_DIRECTORY": folder}
-        start, stop = commands_of_unit(program)
-        run = subprocess.Popen(["/bin/sh", "-c", start], env=environment, stderr=subprocess.PIPE)
-        with contextlib.suppress(TimeoutError):
-            wait_until(lambda: len(lines_of(log)) >= len(wanted) or run.poll() is not None, 20, "the unit's tags")
-        run.terminate()
-        _, err = run.communicate(timeout=LONGEST)
-        reader.kill()
-        reader.wait(LONGEST)
-        written = [json.loads(line) for line in lines_of(log)]
-        reader = simulated(program, port, "")
-        stopped = subprocess.run(["/bin/sh", "-c", stop], env=environment, capture_output=True, timeout=LONGEST)
-        reader.wait(LONGEST)
-    has_all = [{name: it[name] for name in wanted[0]} for it in written] == wanted and all("FirstSeenTimestampUTC" in it for it in written)
-    return (run.returncode, err) == (-signal.SIGTERM, b"") and has_all and (stopped.returncode, stopped.stderr) == (0, b"")
-
-
-def simulated(program, port, script):
-    """Starts a simulated reader with a script, and waits until it listens."""
-    reader = subprocess.Popen([program, "sim", str(port)], stdin=subprocess.PIPE)
-    reader.stdin.write(script.encode())
-    reader.stdin.close()
-    wait_until(lambda: listens_at(port), LONGEST, "sim listens")
-    return reader
-
-
-def lines_of(path):
-    """Returns the lines of a file, none where it is not there yet."""
-    if not os.path.exists(path):
-        return []
-    with open(path, encoding="utf-8") as file:
-        return file.read().splitlines()
 
 
 def filters_at_once():
@@ -383,9 +296,6 @@ def main():
     most = COMMANDS if may_capture() else COMMANDS - sum(len(it) for it in examples(PAGE) if captures(it))
     wrong += [f"{len(ran)} commands are run, and not {most}"] if len(ran) != most else []
     others = {
-        "systemd finds a fault in the unit": unit_is_verified(),
-        "the unit, or what the page says of it": unit_is_as_told(),
-        "what the unit runs": unit_works(program),
         "the filter before the broker": filters_at_once(),
         "examples/seen.awk": tags_are_rows(),
         "examples/python/client.py": client_works(program, run_client),
