@@ -98,6 +98,7 @@ CRATES = {
     "llrp_json_read": "JSON read back",
     "llrp_explain": "a line for each field",
     "llrp_sides": "frames of a capture",
+    "llrp_waits": "how long a client waits",
     "llrp_ask": "a client that asks",
     "llrp_endpoints": "both ends over bytes",
     "llrp_live": "a reader in real time",

@@ -1,0 +1,4 @@
+-- What public contracts say that no promise of README rests on.
+pub mod Heads
+pub mod WaitLaws
+pub mod Waits
