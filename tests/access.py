@@ -23,7 +23,7 @@ from parts.counting import finish_results
 from parts.repository import program_given
 
 # How many comparisons there are.
-LEAST = 1100
+LEAST = 1102
 # How long a run may take, in seconds.
 LONGEST = 20
 # How many tags the last rows write, and how many at a time.
@@ -326,6 +326,14 @@ def saying(code, count=None):
     return tag
 
 
+def run_full(reader, *words):
+    """Status and standard error of `access` where standard output takes nothing."""
+    command = [PROGRAM, "access", f"127.0.0.1:{reader.port}", *words]
+    with open("/dev/full", "wb") as full:
+        done = subprocess.run(command, stdout=full, stderr=subprocess.PIPE, timeout=LONGEST, check=False, text=True)
+    return done.returncode, done.stderr
+
+
 def run(reader, *words):
     """Status, standard output and standard error of `access`."""
     done = subprocess.run([PROGRAM, "access", f"127.0.0.1:{reader.port}", *words], capture_output=True, timeout=LONGEST, check=False, text=True)
@@ -443,6 +451,12 @@ def bad_ends():
     yield "one lost in a read", result == (1, "", "llrp: early\n")
     result = run(Reader(tag, breaks=(CLOSE, False)), "--tag", "any", "--read", "tid:0:1")
     yield "one lost at the end", result == (0, f"{OLD_URI} read tid:0:1 Success e200\n", "")
+
+
+def full_output():
+    """Results that cannot be written: what became of a change is not known, and of a read the error is said."""
+    yield "a change whose line is lost", run_full(Reader(Tag(OLD)), "--tag", "any", *WRITE) == (4, NOT_KNOWN)
+    yield "a read whose line is lost", run_full(Reader(Tag(OLD)), "--tag", "any", "--read", "tid:0:1") == (3, "llrp: write\n")
 
 
 def silences():
@@ -605,7 +619,7 @@ def labels():
 
 
 def main():
-    results = [*reads(), *changes(), *bad_ends(), *silences(), *alike(), *antennas(), *results_in_part(), *watched(), *bad_words(), *labels()]
+    results = [*reads(), *changes(), *bad_ends(), *full_output(), *silences(), *alike(), *antennas(), *results_in_part(), *watched(), *bad_words(), *labels()]
     return finish_results(results, LEAST)
 
 

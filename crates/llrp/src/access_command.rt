@@ -1,9 +1,9 @@
 //! The command `access`: reads, writes or locks one tag.
 
-ghost use Rattle.std.specs.Prelude.{◌≡◌, IfOk};
+ghost use Rattle.std.specs.Prelude.{◌≡◌, IfErr, IfOk};
 ghost use Rattle.llrp_stream.specs.Calls.Device.{CanWrite};
 ghost use Rattle.llrp_stream.specs.Device.{IsFreshSink, Wrote};
-ghost use Rattle.llrp.specs.Calls.AccessEnding.{AccessesReader, SaysEnding};
+ghost use Rattle.llrp.specs.Calls.AccessEnding.{AccessesReader, FailsReader, SaysEnding, ending_after};
 
 use crate::access_errand::{NoErrand, OperationTexts, errand_of};
 use crate::address::Address;
@@ -13,7 +13,7 @@ use crate::timed::Timed;
 use llrp_commands::{AccessWords, USAGE, answer, texts_asked};
 use llrp_files::FAILED;
 use llrp_listing::{ToolErr, write_all};
-use llrp_operations::{Ending, Errand, Patience, WordErr, run_access};
+use llrp_operations::{AccessErr, Ending, Errand, Patience, WordErr, run_access};
 use llrp_stream::{Output, Sink};
 use std::alloc::{AllocError, Global};
 use std::net::TcpStream;
@@ -107,17 +107,29 @@ pub fn say_ending<E: Sink>(ending: Ending, errors: &mut E) -> Result<u8, ToolErr
     }
 }
 
+/// What it comes to that there is no ending: where a tag may have been changed, that it is not known.
+fn ending_after(error: AccessErr) -> Ending
+    ensures { result ≡ ending_after error }
+{
+    if error.may_have_changed {
+        Ending::Unknown
+    } else {
+        Ending::Broken(error.error)
+    }
+}
+
 /// Does to a tag what an errand says, by the reader at the other end of the stream. Writes the lines of the
-/// results to `shown`.
+/// results to `shown`. The errors are those of [`run_access`].
 pub fn access_reader<P: Sink>(
     rt: &HostRuntime,
     stream: &TcpStream,
     errand: Errand<'_>,
     patience: Patience,
     shown: &mut P,
-) -> Result<Ending, ToolErr>
+) -> Result<Ending, AccessErr>
     requires { IsFreshSink (P.log shown.old) }
-    ensures { IfOk result (AccessesReader errand.entry (P.log shown.old) (P.log shown.new)) }
+    ensures accesses { IfOk result (AccessesReader errand.entry (P.log shown.old) (P.log shown.new)) }
+    ensures failed { IfErr result (FailsReader errand.entry) }
 {
     let mut source = Timed::new(rt, stream);
     let mut sink = Output::new(stream);
@@ -152,6 +164,6 @@ pub fn access(
     let mut shown = Output::new(rt.stdout());
     match access_reader(rt, &stream, asked.errand(words), patience, &mut shown) {
         Ok(ending) => say_ending(ending, &mut errors),
-        Err(error) => answer(Err(error), &mut errors),
+        Err(error) => say_ending(ending_after(error), &mut errors),
     }
 }

@@ -10,7 +10,7 @@ use Rattle.llrp_ask.specs.Calls.Asking.{Event}
 use Rattle.llrp_operations.specs.declared.course.Saying.{Saying}
 use Rattle.llrp_operations.specs.declared.course.Stage.TheVariants.{Lost}
 use Rattle.llrp_operations.specs.declared.request.Request.{Request}
-use Rattle.llrp_operations.specs.Calls.Course.{Course, lose, stands}
+use Rattle.llrp_operations.specs.Calls.Course.{Course, lose, may_have_changed, stands}
 use Rattle.llrp_operations.specs.Calls.Messages.{message_to}
 use Rattle.llrp_operations.specs.Calls.Talking.{AreFrames, IsSaid, IsSent, Sends, Talk, cut_off, follow, heard, step, stopped}
 use Rattle.llrp_operations.specs.Private.Conversations.{AddsFrame, AddsFrames}
@@ -74,6 +74,19 @@ stopped_report (Some error) t = refl
 pub cut_report : (failed : Bool) (t : Talk) → (cut_off failed t).report ≡ t.report
 cut_report false t = refl
 cut_report true t = refl
+
+-- what may have been changed stays so
+lost_may : (c : Course) (b : Bool) → may_have_changed (if b then record c { stage = Lost } else c) ≡ may_have_changed c
+lost_may c true = refl
+lost_may c false = refl
+
+pub stopped_may : (why : Option ToolErr) (t : Talk) → may_have_changed (stopped why t).course ≡ may_have_changed t.course
+stopped_may None t = refl
+stopped_may (Some error) t = lost_may t.course (stands t.course.stage)
+
+pub cut_may : (failed : Bool) (t : Talk) → may_have_changed (cut_off failed t).course ≡ may_have_changed t.course
+cut_may false t = refl
+cut_may true t = lost_may t.course (stands t.course.stage)
 
 -- ---- the loop over what is said
 

@@ -1,7 +1,7 @@
 -- A conversation, turn by turn.
 use Rattle.std.proofs.Common.{◌≡◌, ℕ, ◌+◌, ◌^◌, ◌-◌, ◌<◌, ◌≤◌, Bool, true, false, List, [], ◌∷◌, ◌++◌, length, Option, Some, None, refl, sym, ap, subst, ◌∙◌, inl, inr, arith, append_assoc, add-zero}
 use Rattle.std.specs.Prelude.{map, unwrap_or}
-use Rattle.std.specs.Io.KnownBytes.{Keeps as KeepsBytes}
+use Rattle.std.specs.Io.KnownBytes.{Consumes, Keeps as KeepsBytes}
 use Rattle.std.proofs.KnownBytes.{Consumes-kept, Consumes-nil}
 use Rattle.std.proofs.lemmas.List.{append-nil}
 use Rattle.llrp_schema.specs.declared.kinds.KindSet.TheVariants.{Standard}
@@ -13,7 +13,7 @@ use Rattle.llrp_stream.specs.Calls.Device.{CanRead, CanWrite, Took}
 use Rattle.llrp_stream.specs.Items.{ItemsSoFarIn}
 use Rattle.llrp_stream.proofs.WritingLemmas.{same_failures, wrote_nothing}
 use Rattle.llrp_listing.specs.declared.outcome.ToolErr.{ToolErr}
-use Rattle.llrp_listing.specs.declared.outcome.ToolErr.TheVariants.{Early, Read}
+use Rattle.llrp_listing.specs.declared.outcome.ToolErr.TheVariants.{Broken, Early, Read, Strange}
 use Rattle.llrp_ask.specs.Calls.Asking.{Came, Silence, Event, items_of, silences_of}
 use Rattle.llrp_ask.specs.Calls.Run.{HasRead, Stops}
 use Rattle.llrp_ask.proofs.CourseLemmas.{items_more, items_came, silences_more, silences_came}
@@ -21,14 +21,28 @@ use Rattle.llrp_ask.proofs.FrameLemmas.{no_frames, then_more}
 use Rattle.llrp_ask.proofs.RunLemmas.{end_stops, few_more, few_silent, none_stops, read_more, read_nothing, read_some, stops_there}
 use Rattle.llrp_operations.specs.declared.conversation.Conversation.{Conversation}
 use Rattle.llrp_operations.specs.declared.request.Request.{Request}
+use Rattle.llrp_operations.specs.declared.talk.AccessErr.{AccessErr}
 use Rattle.llrp_operations.specs.declared.talk.Talked.{Talked}
-use Rattle.llrp_operations.specs.Calls.Course.{outcome, stands}
-use Rattle.llrp_operations.specs.Calls.Talking.{IsSent, Sends, Talk, Talks, cut_off, first_talk, follow, step, stopped}
-use Rattle.llrp_operations.specs.Private.Conversations.{Begins, Converses, EndsAs, IsLostBy, PassesOn, TakesEnd, TakesFrames, TakesNothing, TakesPiece, TakesSilence, TakesTurn, talk_of}
+use Rattle.llrp_operations.specs.Calls.Course.{may_have_changed, outcome, stands}
+use Rattle.llrp_operations.specs.Calls.Talking.{Fails, IsSent, Sends, Talk, Talks, cut_off, first_talk, follow, step, stopped}
+use Rattle.llrp_operations.specs.Private.Conversations.{Begins, BreaksOff, Converses, EndsAs, FailsTurn, IsLostBy, PassesOn, ReadsOn, TakesEnd, TakesFrames, TakesNothing, TakesPiece, TakesSilence, TakesTurn, talk_of}
 use Rattle.llrp_operations.proofs.ConversationLemmas.{said_in}
-use Rattle.llrp_operations.proofs.TalkLemmas.{cut_report, follow_more, sends_more, sent_alone, sent_more, stands_reading, stands_written, stopped_report}
+use Rattle.llrp_operations.proofs.TalkLemmas.{cut_may, cut_report, follow_more, sends_more, sent_alone, sent_more, stands_reading, stands_written, stopped_may, stopped_report}
 
 -- ---- what one read makes
+
+-- nothing more was read
+reads_none : (r0 r1 : SourceLog) → r1 ≡ r0 → ReadsOn r0 r1
+reads_none r0 r1 same = ([], subst (λ (r : SourceLog). Consumes r0.left r.left []) (sym same) (Consumes-nil r0.left))
+
+-- reading failed
+pub late_reads : (r0 r1 : SourceLog) → KeepsBytes r0.left r1.left → ReadsOn r0 r1
+late_reads r0 r1 keeps = ([], Consumes-kept r0.left r0.left r1.left [] (Consumes-nil r0.left) keeps)
+
+-- octets came
+pub piece_reads : (r0 r1 : SourceLog) (piece : List ℕ) → Took r0 r1 piece → ReadsOn r0 r1
+piece_reads r0 r1 [] took = ([], took.1)
+piece_reads r0 r1 (b ∷ bs) took = (b ∷ bs, took.1)
 
 pub ends_turn : (old new : Conversation) (out : List ℕ) (r0 r1 : SourceLog) → Took r0 r1 [] → IsLostBy Early old new → TakesTurn old new out out r0 r1
 ends_turn old new out r0 r1 took lost = inr (inr (record {
@@ -246,26 +260,99 @@ next_turn turns old mid next new r0 r1 r2 r3 w0 w1 w2 was out left t is log took
 
 -- ---- a whole conversation
 
+talk_at_end : (r : Request) (begin end : Conversation) (r0 r1 : SourceLog) (w0 w1 : SinkLog) → Begins r begin → (c : Converses begin end r0 r1 w0 w1) → talk_of end ≡ cut_off c.failed (stopped c.why (follow r.id c.events (first_talk r)))
+talk_at_end r begin end r0 r1 w0 w1 b c =
+    c.talk ∙ ap (λ (x : Request). cut_off c.failed (stopped c.why (follow x.id c.events (talk_of begin)))) b.request ∙ ap (λ (x : Talk). cut_off c.failed (stopped c.why (follow r.id c.events x))) b.talk
+
+came_to : (r : Request) (begin end : Conversation) (r0 r1 : SourceLog) (w0 w1 : SinkLog) → Begins r begin → (c : Converses begin end r0 r1 w0 w1) → ItemsSoFarIn Standard MAX_LIMIT c.bytes (items_of c.events) end.held.items
+came_to r begin end r0 r1 w0 w1 b c = subst (λ (x : List ℕ). ItemsSoFarIn Standard MAX_LIMIT (x ++ c.bytes) (items_of c.events) end.held.items) b.held c.came
+
+sent_from : (r : Request) (begin end : Conversation) (r0 r1 : SourceLog) (w0 w1 : SinkLog) → Begins r begin → (c : Converses begin end r0 r1 w0 w1) → IsSent r c.events (first_talk r) c.octets
+sent_from r begin end r0 r1 w0 w1 b c = subst (λ (x : Talk). IsSent r c.events x c.octets) b.talk (subst (λ (x : Request). IsSent x c.events (talk_of begin) c.octets) b.request c.sent)
+
+may_at_end : (r : Request) (begin end : Conversation) (r0 r1 : SourceLog) (w0 w1 : SinkLog) → Begins r begin → (c : Converses begin end r0 r1 w0 w1) → may_have_changed (talk_of end).course ≡ may_have_changed (follow r.id c.events (first_talk r)).course
+may_at_end r begin end r0 r1 w0 w1 b c =
+    let last = follow r.id c.events (first_talk r) in
+    ap (λ (x : Talk). may_have_changed x.course) (talk_at_end r begin end r0 r1 w0 w1 b c) ∙ cut_may c.failed (stopped c.why last) ∙ stopped_may c.why last
+
 pub talks : (r : Request) (begin end : Conversation) (r0 r1 : SourceLog) (w0 w1 : SinkLog) (talked : Talked) → Begins r begin → Converses begin end r0 r1 w0 w1 → EndsAs end talked → Talks r r0 r1 w0 w1 talked
 talks r begin end r0 r1 w0 w1 talked b c e =
     let last = follow r.id c.events (first_talk r) in
-    let talk : talk_of end ≡ cut_off c.failed (stopped c.why last) =
-    c.talk ∙ ap (λ (x : Request). cut_off c.failed (stopped c.why (follow x.id c.events (talk_of begin)))) b.request ∙ ap (λ (x : Talk). cut_off c.failed (stopped c.why (follow r.id c.events x))) b.talk in
+    let talk = talk_at_end r begin end r0 r1 w0 w1 b c in
     record {
       bytes = c.bytes;
       events = c.events;
       rest = end.held.items;
-      came = subst (λ (x : List ℕ). ItemsSoFarIn Standard MAX_LIMIT (x ++ c.bytes) (items_of c.events) end.held.items) b.held c.came;
+      came = came_to r begin end r0 r1 w0 w1 b c;
       until = c.until;
       read = c.read;
       why = c.why;
       stops = c.stops;
       octets = c.octets;
-      sent = subst (λ (x : Talk). IsSent r c.events x c.octets) b.talk (subst (λ (x : Request). IsSent x c.events (talk_of begin) c.octets) b.request c.sent);
+      sent = sent_from r begin end r0 r1 w0 w1 b c;
       failed = c.failed;
       sends = c.sends;
       outcome_is = e.outcome ∙ ap (λ (x : Talk). outcome x.course) talk;
       report_is = e.report ∙ ap (λ (x : Talk). x.report) talk ∙ cut_report c.failed (stopped c.why last) ∙ stopped_report c.why last;
       seen_is = e.seen ∙ ap (λ (x : Talk). x.course.seen) talk;
       cause_is = e.cause ∙ ap (λ (x : Talk). unwrap_or x.cause Read) talk;
+      may_is = e.may ∙ may_at_end r begin end r0 r1 w0 w1 b c;
+    }
+
+-- ---- a conversation that breaks off
+
+stops_reads : (why : Option ToolErr) (r0 r1 : SourceLog) (rest : List ℕ) → Stops why r0 r1 rest → ReadsOn r0 r1
+stops_reads None r0 r1 rest s = reads_none r0 r1 s.0
+stops_reads (Some Early) r0 r1 rest s = ([], s.0.bytes_are)
+stops_reads (Some Read) r0 r1 rest s = ([], s.0.bytes_are)
+stops_reads (Some Broken) r0 r1 rest s = reads_none r0 r1 s.0
+stops_reads (Some Strange) r0 r1 rest s = reads_none r0 r1 s.0
+stops_reads (Some _) r0 r1 rest s = absurd s
+
+pub breaks_in_turn : (turns : ℕ) (old mid : Conversation) (r0 r1 r2 r3 : SourceLog) (w0 w1 : SinkLog) (out : List ℕ) (err : AccessErr) → Turns turns old mid r0 r1 w0 w1 out → stands mid.course.stage ≡ true → r2 ≡ r1 → FailsTurn mid r2 r3 err
+    → BreaksOff old r0 r3 w0 w1 err
+breaks_in_turn turns old mid r0 r1 r2 r3 w0 w1 out err t is log f =
+    let way = on_way old mid r0 r1 w0 w1 t.so is in
+    record { last = mid; r1 = r1; so = t.so; later = subst (λ (r : SourceLog). ReadsOn r r3) (log ∙ way.same) f.reads; may_is = f.may_is }
+
+pub breaks_after : (turns : ℕ) (old end : Conversation) (r0 r1 : SourceLog) (w0 w1 : SinkLog) (out : List ℕ) (err : AccessErr) → Turns turns old end r0 r1 w0 w1 out → err.may_have_changed ≡ may_have_changed (talk_of end).course
+    → BreaksOff old r0 r1 w0 w1 err
+breaks_after turns old end r0 r1 w0 w1 out err t may =
+    record { last = end; r1 = r1; so = t.so; later = stops_reads t.so.why t.so.until r1 end.held.items t.so.stops; may_is = may }
+
+pub fails : (r : Request) (begin : Conversation) (r0 r1 : SourceLog) (w0 w1 : SinkLog) (err : AccessErr) → Begins r begin → BreaksOff begin r0 r1 w0 w1 err → Fails r r0 r1 w0 w1 err
+fails r begin r0 r1 w0 w1 err b f = record {
+  bytes = f.so.bytes;
+  events = f.so.events;
+  rest = f.last.held.items;
+  came = came_to r begin f.last r0 f.r1 w0 w1 b f.so;
+  until = f.so.until;
+  read = f.so.read;
+  later = f.later.0;
+  read_later = f.later.1;
+  octets = f.so.octets;
+  sent = sent_from r begin f.last r0 f.r1 w0 w1 b f.so;
+  failed = f.so.failed;
+  sends = f.so.sends;
+  may_is = f.may_is ∙ may_at_end r begin f.last r0 f.r1 w0 w1 b f.so;
+}
+
+-- an error after a whole conversation
+pub fails_later : (r : Request) (r0 r1 : SourceLog) (w0 w1 : SinkLog) (talked : Talked) (err : AccessErr) → Talks r r0 r1 w0 w1 talked → err.may_have_changed ≡ talked.may_have_changed → Fails r r0 r1 w0 w1 err
+fails_later r r0 r1 w0 w1 talked err t may =
+    let later = stops_reads t.why t.until r1 t.rest t.stops in
+    record {
+      bytes = t.bytes;
+      events = t.events;
+      rest = t.rest;
+      came = t.came;
+      until = t.until;
+      read = t.read;
+      later = later.0;
+      read_later = later.1;
+      octets = t.octets;
+      sent = t.sent;
+      failed = t.failed;
+      sends = t.sends;
+      may_is = may ∙ t.may_is;
     }

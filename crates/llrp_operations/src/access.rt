@@ -1,11 +1,12 @@
 //! Does to one tag what an errand says, and prints what became of each operation.
 
-ghost use Rattle.std.specs.Prelude.{◌≡◌, ◌++◌, IfOk, OnOk, option_map, unwrap_or};
+ghost use Rattle.std.specs.Prelude.{◌≡◌, ◌++◌, IfErr, IfOk, OnOk, option_map, unwrap_or};
 ghost use Rattle.llrp_stream.specs.Device.{IsFreshSink, IsFreshSource};
 ghost use Rattle.llrp_stream.specs.Calls.Device.{CanWrite};
 ghost use Rattle.llrp_operations.specs.Calls.Access as accesses;
 ghost use Rattle.llrp_operations.specs.Calls.Lines.{referred};
-ghost use Rattle.llrp_operations.specs.Private.Endings.{Concludes};
+ghost use Rattle.llrp_operations.specs.Calls.Talking.{Fails};
+ghost use Rattle.llrp_operations.specs.Private.Endings.{Concludes, Ends};
 
 use crate::change::change_tag;
 use crate::course::Outcome;
@@ -16,7 +17,7 @@ use crate::parameters::SpecErr;
 use crate::request::Request;
 use crate::results::is_clear;
 use crate::tag_names::tag_name;
-use crate::talk::{Patience, operate};
+use crate::talk::{AccessErr, Patience, Talked, operate};
 use crate::verified::{Meant, is_done, is_meant, result_of};
 use llrp_ask::TimedSource;
 use llrp_listing::{Text, ToolErr, write_all};
@@ -56,7 +57,7 @@ pub enum Ending {
     /// No results came, or results of which it is not clear what became of the tag: it may have been changed,
     /// or not.
     Unknown,
-    /// The connection was lost, for this reason; nothing was changed.
+    /// It ended for this reason, mostly since the connection was lost; nothing was changed.
     Broken(ToolErr),
 }
 
@@ -220,10 +221,30 @@ fn conclude<P: Sink>(
     }
 }
 
+/// Prints the results that came, if some did, and says what came of it.
+fn end<P: Sink>(
+    alloc: Global,
+    errand: Errand<'_>,
+    talked: &Talked,
+    p: &mut P,
+) -> Result<Ending, ToolErr>
+    requires { IsFreshSink (P.log p.old) }
+    ensures { IfOk result (Ends errand.entry talked.now (P.log p.old) (P.log p.new)) }
+{
+    match tag_of(errand.request.id, &talked.report) {
+        Some(tag) => {
+            let seen = talked.seen.as_ref().map(|epc| epc.as_slice());
+            conclude(alloc, errand, meant_by(errand, seen), tag, p)
+        }
+        None => Ok(ending_of(talked.outcome, talked.cause)),
+    }
+}
+
 /// Does to a tag what an errand says, by the reader whose octets the source gives, beginning with the message
 /// that it sends by itself. What the client says is written to `w`, and the lines of the results to `p`.
 ///
-/// The errors are those of [`operate`], and `Write` if the lines could not be written.
+/// The errors are those of [`operate`], and `Write` if the lines could not be written. Where an AccessSpec
+/// that changes a tag was enabled by then, the error says so.
 pub fn run_access<R: TimedSource, W: Sink, P: Sink>(
     alloc: Global,
     errand: Errand<'_>,
@@ -231,19 +252,21 @@ pub fn run_access<R: TimedSource, W: Sink, P: Sink>(
     r: &mut R,
     w: &mut W,
     p: &mut P,
-) -> Result<Ending, ToolErr>
+) -> Result<Ending, AccessErr>
     requires source { IsFreshSource (R.log r.old) }
     requires sink { IsFreshSink (W.log w.old) }
     requires shown { IsFreshSink (P.log p.old) }
-    ensures { IfOk result (accesses.Accesses errand.entry (R.log r.old) (R.log r.new) (W.log w.old)
+    ensures accesses { IfOk result (accesses.Accesses errand.entry (R.log r.old) (R.log r.new) (W.log w.old)
         (W.log w.new) (P.log p.old) (P.log p.new)) }
+    ensures failed { IfErr result (Fails errand.entry.request (R.log r.old) (R.log r.new)
+        (W.log w.old) (W.log w.new)) }
 {
     let talked = operate(alloc, errand.request, patience, r, w)?;
-    match tag_of(errand.request.id, &talked.report) {
-        Some(tag) => {
-            let seen = talked.seen.as_ref().map(|epc| epc.as_slice());
-            conclude(alloc, errand, meant_by(errand, seen), tag, p)
-        }
-        None => Ok(ending_of(talked.outcome, talked.cause)),
+    match end(alloc, errand, &talked, p) {
+        Ok(ending) => Ok(ending),
+        Err(error) => Err(AccessErr {
+            error,
+            may_have_changed: talked.may_have_changed,
+        }),
     }
 }

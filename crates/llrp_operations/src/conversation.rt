@@ -2,7 +2,7 @@
 
 ghost use Rattle.std.specs.Prelude.{◌≡◌, ◌++◌, OnOk, IfOk, []};
 ghost use Rattle.llrp_stream.specs.Cuts.{IsFrame};
-ghost use Rattle.llrp_operations.specs.Calls.Course.{stands as the_test};
+ghost use Rattle.llrp_operations.specs.Calls.Course.{may_have_changed as may_change, stands as the_test};
 ghost use Rattle.llrp_operations.specs.Private.Conversations as talks;
 
 use crate::change::change_tag;
@@ -95,6 +95,13 @@ impl<'a> Conversation<'a> {
         ensures { result ≡ the_test self.now.course.stage }
     {
         stands(self.course.stage())
+    }
+
+    /// Whether the reader may have changed a tag by now.
+    pub(crate) fn may_have_changed(&self) -> bool
+        ensures { result ≡ may_change (talks.talk_of self.now).course }
+    {
+        self.course.may_have_changed()
     }
 
     /// Takes note that nothing more can come, for this reason.
@@ -213,6 +220,7 @@ impl<'a> Conversation<'a> {
     {
         Talked {
             outcome: self.course.outcome(),
+            may_have_changed: self.course.may_have_changed(),
             report: self.report,
             seen: self.course.into_seen(),
             cause: self.cause.unwrap_or(ToolErr::Read),

@@ -412,7 +412,7 @@ impl<'a> Course<'a> {
     }
 
     /// Whether the reader may have changed a tag without a report.
-    fn may_have_changed(&self) -> bool
+    pub(crate) fn may_have_changed(&self) -> bool
         ensures { result ≡ course.may_have_changed (course_of self.now []) }
     {
         self.armed && self.changes

@@ -38,6 +38,6 @@ pub use parameters::SpecErr;
 pub use request::{LONGEST_EPC, MOST_OPERATIONS, Request, access_spec};
 pub use results::{has_succeeded, is_clear};
 pub use tag_names::tag_name;
-pub use talk::{Patience, Talked, operate};
+pub use talk::{AccessErr, Patience, Talked, operate};
 pub use verified::{Meant, is_done, is_meant, result_of};
 pub use word::{WordErr, lock_of, read_of, write_of};

@@ -1,9 +1,9 @@
 //! Operates on a tag over a source and a sink.
 
-ghost use Rattle.std.specs.Prelude.{◌≡◌, OnOk, IfOk, [], true};
+ghost use Rattle.std.specs.Prelude.{◌≡◌, IfErr, IfOk, OnErr, OnOk, [], true};
 ghost use Rattle.llrp_stream.specs.Device.{IsFreshSink, IsFreshSource};
 ghost use Rattle.llrp_stream.specs.Calls.Device.{CanRead, CanWrite};
-ghost use Rattle.llrp_operations.specs.Calls.Talking.{Talks};
+ghost use Rattle.llrp_operations.specs.Calls.Talking.{Fails, Talks};
 ghost use Rattle.llrp_operations.specs.Private.Conversations as talks;
 
 use crate::conversation::Conversation;
@@ -34,6 +34,16 @@ pub struct Talked {
     pub seen: Option<Vec<u8>>,
     /// Why the connection was lost, if it was.
     pub cause: ToolErr,
+    /// An AccessSpec that changes a tag was enabled.
+    pub may_have_changed: bool,
+}
+
+/// Why there is no outcome.
+#[derive(Clone, Copy, Debug, PartialEq, Eq)]
+pub struct AccessErr {
+    pub error: ToolErr,
+    /// An AccessSpec that changes a tag was enabled by then: the tag may have been changed, or not.
+    pub may_have_changed: bool,
 }
 
 /// For how many milliseconds a stage lasts at most.
@@ -62,8 +72,9 @@ fn take_turn<R: Source>(
     r: &mut R,
 ) -> Result<(), ToolErr>
     requires { CanRead (R.log r.old) }
-    ensures { OnOk result (talks.TakesTurn conversation.old conversation.new out.old.items
+    ensures turn { OnOk result (talks.TakesTurn conversation.old conversation.new out.old.items
         out.new.items (R.log r.old) (R.log r.new)) }
+    ensures read { OnErr result (talks.ReadsOn (R.log r.old) (R.log r.new)) }
 {
     let mut buffer = [0u8; READ_SIZE];
     match r.read(&mut buffer) {
@@ -78,6 +89,27 @@ fn take_turn<R: Source>(
         }
     }
     Ok(())
+}
+
+/// The same; the error says what may have been changed before that.
+fn try_turn<R: Source>(
+    conversation: &mut Conversation<'_>,
+    out: &mut Vec<u8>,
+    r: &mut R,
+) -> Result<(), AccessErr>
+    requires { CanRead (R.log r.old) }
+    ensures turn { OnOk result (talks.TakesTurn conversation.old conversation.new out.old.items
+        out.new.items (R.log r.old) (R.log r.new)) }
+    ensures failed { IfErr result (talks.FailsTurn conversation.old (R.log r.old) (R.log r.new)) }
+{
+    let may_have_changed = conversation.may_have_changed();
+    match take_turn(conversation, out, r) {
+        Ok(()) => Ok(()),
+        Err(error) => Err(AccessErr {
+            error,
+            may_have_changed,
+        }),
+    }
 }
 
 /// Writes what was gathered; a connection that does not take it is lost.
@@ -99,13 +131,15 @@ fn converse<R: TimedSource, W: Sink>(
     out: &mut Vec<u8>,
     r: &mut R,
     w: &mut W,
-) -> Result<(), ToolErr>
+) -> Result<(), AccessErr>
     requires source { IsFreshSource (R.log r.old) }
     requires sink { IsFreshSink (W.log w.old) }
     requires fresh { conversation.old.held.items ≡ [] }
     requires empty { out.old.items ≡ [] }
-    ensures { OnOk result (talks.Converses conversation.old conversation.new (R.log r.old)
+    ensures on { OnOk result (talks.Converses conversation.old conversation.new (R.log r.old)
         (R.log r.new) (W.log w.old) (W.log w.new)) }
+    ensures failed { IfErr result (talks.BreaksOff conversation.old (R.log r.old) (R.log r.new)
+        (W.log w.old) (W.log w.new)) }
 {
     let mut last = None;
     'turns: for _turn in 0..MOST_TURNS {
@@ -113,10 +147,13 @@ fn converse<R: TimedSource, W: Sink>(
             return Ok(());
         }
         begin_wait(&mut last, conversation.stage(), patience, r);
-        take_turn(conversation, out, r)?;
+        try_turn(conversation, out, r)?;
         pass_on(conversation, out, w);
     }
-    Err(ToolErr::Bound)
+    Err(AccessErr {
+        error: ToolErr::Bound,
+        may_have_changed: conversation.may_have_changed(),
+    })
 }
 
 /// Operates on a tag by the reader whose octets the source gives, beginning with the message that it sends by
@@ -124,17 +161,19 @@ fn converse<R: TimedSource, W: Sink>(
 /// fails, the connection is lost.
 ///
 /// The error is `Memory`; `Bound` if no AccessSpec can be made for the EPC that was seen, or after
-/// 9,223,372,036,854,775,807 reads.
+/// 9,223,372,036,854,775,807 reads. Where an AccessSpec that changes a tag was enabled by then, it says so.
 pub fn operate<R: TimedSource, W: Sink>(
     alloc: Global,
     request: Request<'_>,
     patience: Patience,
     r: &mut R,
     w: &mut W,
-) -> Result<Talked, ToolErr>
+) -> Result<Talked, AccessErr>
     requires source { IsFreshSource (R.log r.old) }
     requires sink { IsFreshSink (W.log w.old) }
-    ensures { IfOk result (Talks request.entry (R.log r.old) (R.log r.new) (W.log w.old)
+    ensures talks { IfOk result (Talks request.entry (R.log r.old) (R.log r.new) (W.log w.old)
+        (W.log w.new)) }
+    ensures failed { IfErr result (Fails request.entry (R.log r.old) (R.log r.new) (W.log w.old)
         (W.log w.new)) }
 {
     let mut conversation = Conversation::new(alloc, request);

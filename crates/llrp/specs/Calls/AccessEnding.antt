@@ -1,5 +1,5 @@
 -- How `access` operates on a tag over a socket, and how it ends; std's contracts say neither what a socket has left to read nor what it took.
-use Rattle.std.specs.Prelude.{◌≡◌, ℕ, List, [], None, codes}
+use Rattle.std.specs.Prelude.{◌≡◌, ℕ, if◌then◌else◌, List, [], None, codes}
 use Rattle.llrp_stream.specs.Device.{SourceLog, SinkLog, Wrote}
 use Rattle.llrp_stream.specs.Calls.Device.{new_sink, new_source}
 use Rattle.llrp_listing.specs.declared.outcome.ToolErr.TheVariants.{Peer}
@@ -7,11 +7,21 @@ use Rattle.llrp_commands.specs.Calls.Command.{error_line, error_status}
 use Rattle.llrp_operations.specs.declared.access.Ending.{Ending}
 use Rattle.llrp_operations.specs.declared.access.Ending.TheVariants.{Done, Undone, Refused, Several, NoEpc, NoTag, Unknown, Broken}
 use Rattle.llrp_operations.specs.declared.access.Errand.{Errand}
+use Rattle.llrp_operations.specs.declared.talk.AccessErr.{AccessErr}
 use Rattle.llrp_operations.specs.Calls.Access.{Accesses}
+use Rattle.llrp_operations.specs.Calls.Talking.{Fails}
 
 -- A client operated so, over a source and a sink of which nothing was read or written before. These are the logs of what it prints.
 abbrev pub AccessesReader : Errand → SinkLog → SinkLog → Ending → Type 0
 AccessesReader e p0 p1 end = (source : SourceLog) × (sink : SinkLog) × Accesses e (new_source None) source (new_sink None) sink p0 p1 end
+
+-- It failed so. This is what was sent by then, and whether a change was asked for.
+abbrev pub FailsReader : Errand → AccessErr → Type 0
+FailsReader e err = (source : SourceLog) × (sink : SinkLog) × Fails e.request (new_source None) source (new_sink None) sink err
+
+-- what that comes to: where a change was asked for, it is not known what became of it
+abbrev pub ending_after : AccessErr → Ending
+ending_after err = if err.may_have_changed then Unknown else Broken err.error
 
 -- the exit status
 abbrev pub ending_status : Ending → ℕ

@@ -6,6 +6,7 @@ use Rattle.llrp_tree.specs.declared.TheConstants.{MAX_LIMIT}
 use Rattle.llrp_tree.specs.Tree.{MessageTree}
 use Rattle.llrp_tree.specs.Frame.{Frame}
 use Rattle.llrp_stream.specs.declared.item.Item.TheVariants.{Msg, Bad}
+use Rattle.std.specs.Io.KnownBytes.{Consumes}
 use Rattle.llrp_stream.specs.Cuts.{joined}
 use Rattle.llrp_stream.specs.Device.{SourceLog, SinkLog, Wrote}
 use Rattle.llrp_stream.specs.Calls.Writing.{Failed}
@@ -16,9 +17,10 @@ use Rattle.llrp_ask.specs.Calls.Asking.{Event, Came, Silence, items_of, silences
 use Rattle.llrp_ask.specs.Calls.Run.{HasRead, Stops}
 use Rattle.llrp_operations.specs.declared.course.Saying.{Saying}
 use Rattle.llrp_operations.specs.declared.request.Request.{Request}
+use Rattle.llrp_operations.specs.declared.talk.AccessErr.{AccessErr}
 use Rattle.llrp_operations.specs.declared.talk.Talked.{Talked}
 use Rattle.llrp_operations.specs.Calls.Changes.{changes}
-use Rattle.llrp_operations.specs.Calls.Course.{Course, first_course, lose, outcome, silent, target}
+use Rattle.llrp_operations.specs.Calls.Course.{Course, first_course, lose, may_have_changed, outcome, silent, target}
 use Rattle.llrp_operations.specs.Calls.Messages.{hear_message, message_to}
 
 -- what has come of it; the course has said what it said before, so it says nothing
@@ -123,3 +125,21 @@ pub record Talks (r : Request) (r0 r1 : SourceLog) (w0 w1 : SinkLog) (talked : T
   pub report_is : talked.report ≡ (follow r.id events (first_talk r)).report
   pub seen_is : option_map (λ epc. epc.items) talked.seen ≡ (cut_off failed (stopped why (follow r.id events (first_talk r)))).course.seen
   pub cause_is : talked.cause ≡ unwrap_or (cut_off failed (stopped why (follow r.id events (first_talk r)))).cause Read
+  pub may_is : talked.may_have_changed ≡ may_have_changed (follow r.id events (first_talk r)).course
+
+-- There is no outcome. What happened by then: to the reader went the frames of what the course of these events says, and nothing else. Octets that were read after
+-- that led to nothing that was sent. A tag may have been changed if the AccessSpec that changes it was enabled in this course.
+pub record Fails (r : Request) (r0 r1 : SourceLog) (w0 w1 : SinkLog) (err : AccessErr) : Type 0 where
+  pub bytes : List ℕ
+  pub events : List Event
+  pub rest : List ℕ
+  pub came : ItemsSoFarIn Standard MAX_LIMIT bytes (items_of events) rest
+  pub until : SourceLog
+  pub read : HasRead r0 until bytes (silences_of events)
+  pub later : List ℕ
+  pub read_later : Consumes until.left r1.left later
+  pub octets : List ℕ
+  pub sent : IsSent r events (first_talk r) octets
+  pub failed : Bool
+  pub sends : Sends failed w0 w1 octets
+  pub may_is : err.may_have_changed ≡ may_have_changed (follow r.id events (first_talk r)).course

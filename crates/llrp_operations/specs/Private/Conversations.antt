@@ -6,6 +6,7 @@ use Rattle.llrp_tree.specs.Tree.{MessageTree}
 use Rattle.llrp_tree.specs.Frame.{Frame}
 use Rattle.llrp_stream.specs.declared.item.Item.{Item}
 use Rattle.llrp_stream.specs.declared.item.Item.TheVariants.{Msg}
+use Rattle.std.specs.Io.KnownBytes.{Consumes}
 use Rattle.llrp_stream.specs.Device.{SinkLog, SourceLog}
 use Rattle.llrp_stream.specs.Items.{IsItemIn, ItemsSoFarIn}
 use Rattle.llrp_listing.specs.declared.outcome.ToolErr.{ToolErr}
@@ -16,8 +17,9 @@ use Rattle.llrp_ask.specs.Calls.Run.{HasRead, MetEnd, ReadFailed, Stops}
 use Rattle.llrp_operations.specs.declared.conversation.Conversation.{Conversation}
 use Rattle.llrp_operations.specs.declared.course.Saying.{Saying}
 use Rattle.llrp_operations.specs.declared.request.Request.{Request}
+use Rattle.llrp_operations.specs.declared.talk.AccessErr.{AccessErr}
 use Rattle.llrp_operations.specs.declared.talk.Talked.{Talked}
-use Rattle.llrp_operations.specs.Calls.Course.{course_of, outcome}
+use Rattle.llrp_operations.specs.Calls.Course.{course_of, may_have_changed, outcome}
 use Rattle.llrp_operations.specs.Calls.Messages.{message_of}
 use Rattle.llrp_operations.specs.Calls.Talking.{AreFrames, IsSaid, IsSent, Sends, Talk, cut_off, first_talk, follow, heard, lose_by, step, stopped}
 
@@ -134,6 +136,15 @@ pub record TakesEnd (old new : Conversation) (out0 out1 : List ℕ) (r0 r1 : Sou
 abbrev pub TakesTurn : (old new : Conversation) (out0 out1 : List ℕ) (r0 r1 : SourceLog) → Type 0
 TakesTurn old new out0 out1 r0 r1 = TakesPiece old new out0 out1 r0 r1 ⊎ TakesNothing old new out0 out1 r0 r1 ⊎ TakesEnd old new out0 out1 r0 r1
 
+-- some octets were read
+abbrev pub ReadsOn : (r0 r1 : SourceLog) → Type 0
+ReadsOn r0 r1 = (piece : List ℕ) × Consumes r0.left r1.left piece
+
+-- It came to nothing that was sent; the error says what may have been changed before that.
+pub record FailsTurn (old : Conversation) (r0 r1 : SourceLog) (err : AccessErr) : Type 0 where
+  pub reads : ReadsOn r0 r1
+  pub may_is : err.may_have_changed ≡ may_have_changed (talk_of old).course
+
 -- What was gathered was written, or writing failed and the connection is lost.
 pub record PassesOn (old new : Conversation) (out0 out1 : List ℕ) (w0 w1 : SinkLog) : Type 0 where
   pub failed : Bool
@@ -148,6 +159,7 @@ pub record EndsAs (c : Conversation) (talked : Talked) : Type 0 where
   pub report : talked.report ≡ c.report
   pub seen : option_map (λ epc. epc.items) talked.seen ≡ (talk_of c).course.seen
   pub cause : talked.cause ≡ unwrap_or c.cause Read
+  pub may : talked.may_have_changed ≡ may_have_changed (talk_of c).course
 
 -- ---- a conversation
 
@@ -166,3 +178,11 @@ pub record Converses (old new : Conversation) (r0 r1 : SourceLog) (w0 w1 : SinkL
   pub sends : Sends failed w0 w1 octets
   pub talk : talk_of new ≡ cut_off failed (stopped why (follow old.request.id events (talk_of old)))
   pub request : new.request ≡ old.request
+
+-- It broke off: this is what had happened by then, and what was read later came to nothing.
+pub record BreaksOff (old : Conversation) (r0 r2 : SourceLog) (w0 w1 : SinkLog) (err : AccessErr) : Type 0 where
+  pub last : Conversation
+  pub r1 : SourceLog
+  pub so : Converses old last r0 r1 w0 w1
+  pub later : ReadsOn so.until r2
+  pub may_is : err.may_have_changed ≡ may_have_changed (talk_of last).course
