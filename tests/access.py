@@ -23,7 +23,7 @@ from parts.counting import finish_results
 from parts.repository import program_given
 
 # How many comparisons there are.
-LEAST = 1102
+LEAST = 1115
 # How long a run may take, in seconds.
 LONGEST = 20
 # How many tags the last rows write, and how many at a time.
@@ -477,6 +477,7 @@ def silences():
     yield "a report that comes late", result == (0, f"{OLD_URI} write user:0 Success\n", "") and kinds(reader) == WHOLE
 
 
+HINT = "llrp: hint: the AccessSpec has two C1G2TargetTags, and the reader may take one alone\n"
 NOT_DONE, NOT_KNOWN, WRITE = "llrp: not done\n", "llrp: unknown, read again\n", ("--write", "user:0=00010002")
 
 
@@ -507,11 +508,51 @@ def alike():
     yield "the TID of a tag without EPC", result == (0, "- read tid:0:1 Success e200\n", "")
     result = run(Reader(Tag(b""), Tag(OLD)), "--tag", "any", *WRITE)
     yield "one without an EPC and another", result == (1, "", "llrp: several tags\n")
-    tag = Tag(OLD)
-    reader = Narrow(tag)
-    result = run(reader, "--tag", OLD_URI, *WRITE)
-    yield "a second target that is refused", result[:2] == (1, "") and result[2].startswith("llrp: status 101\n") and tag.banks == Tag(OLD).banks
-    yield "there is no second try", kinds(reader) == WHOLE[:6] + WHOLE[7:]
+
+
+def narrow():
+    """A reader that takes one C1G2TargetTag alone: a hint says so where there were two, and nowhere else."""
+    refused = "llrp: status 101\n"
+    for what, words in {"a URI": (OLD_URI, *WRITE), "any tag": ("any", *WRITE), "digits": (OLD.hex(), "--read", "tid:0:1")}.items():
+        tag = Tag(OLD)
+        reader = Narrow(tag)
+        result = run(reader, "--tag", *words)
+        yield f"a second target for {what}", result == (1, "", refused + HINT) and tag.banks == Tag(OLD).banks
+        yield f"no second try for {what}", kinds(reader) == WHOLE[:6] + WHOLE[7:]
+    result = run(Narrow(Tag(OLD)), "--tag", "any", "--read", "tid:0:1")
+    yield "one target", result == (0, f"{OLD_URI} read tid:0:1 Success e200\n", "")
+    for kind in (ENABLE_ROSPEC, ENABLE_ACCESS):
+        result = run(Mute(Tag(OLD), answers={kind: (101, "")}), "--tag", OLD_URI, *WRITE)
+        yield f"a refusal of {kind}", result == (1, "", refused)
+
+
+def orders():
+    """What is sent for all options together: in which order, under which ids, with which password, for which tag."""
+    words = ("--lock", "epc=lock", "--write", "user:0=0001", "--epc", NEW_URI, "--read", "tid:0:1", "--lock", "user=unlock", "--read", "user:1:2")
+    with tempfile.NamedTemporaryFile("w") as file:
+        file.write("01020304")
+        file.flush()
+        reader = Reader(Tag(OLD, password=0x01020304))
+        result = run(reader, "--tag", OLD_URI, "--antenna", "2", "--verify", "--password-file", file.name, *words)
+    spec = Reader.parsed(next(body for kind, _, body in reader.came if kind == ADD_ACCESS))
+    wanted = [
+        (341, b"\x80" + bytes.fromhex("00000001")),
+        (341, b"\xc0" + bytes.fromhex("00010002")),
+        (342, b"\xc0" + bytes.fromhex("000000010001")),
+        (342, b"\x40" + bytes.fromhex("00020006") + NEW),
+        (344, bytes.fromhex("015900060002")),
+        (344, bytes.fromhex("015900060304")),
+        (341, b"\xc0" + bytes.fromhex("00000001")),
+        (341, b"\x40" + bytes.fromhex("00020006")),
+    ]
+    yield "all options", result[0] == 0 and result[1].count(" Success") == len(wanted)
+    yield "their order", [(kind, body[6:]) for kind, body in spec["operations"]] == wanted
+    yield "their ids", [struct.unpack(">H", body[:2])[0] for _, body in spec["operations"]] == list(range(1, len(wanted) + 1))
+    yield "their password", {body[2:6].hex() for _, body in spec["operations"]} == {"01020304"}
+    yield "their antenna and id", (spec["antenna"], spec["id"]) == (2, OWN_ID)
+    bits = struct.pack(">H", 96)
+    targets = [b"\x60" + bytes.fromhex("00100005f8000530"), b"\x60" + bytes.fromhex("00200060") + b"\xff" * 12 + bits + OLD]
+    yield "their tag", spec["targets"] == targets
 
 
 def antennas():
@@ -619,7 +660,7 @@ def labels():
 
 
 def main():
-    results = [*reads(), *changes(), *bad_ends(), *full_output(), *silences(), *alike(), *antennas(), *results_in_part(), *watched(), *bad_words(), *labels()]
+    results = [*reads(), *changes(), *bad_ends(), *full_output(), *silences(), *alike(), *narrow(), *orders(), *antennas(), *results_in_part(), *watched(), *bad_words(), *labels()]
     return finish_results(results, LEAST)
 
 

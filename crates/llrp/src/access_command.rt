@@ -5,7 +5,7 @@ ghost use Rattle.llrp_stream.specs.Calls.Device.{CanWrite};
 ghost use Rattle.llrp_stream.specs.Device.{IsFreshSink, Wrote};
 ghost use Rattle.llrp.specs.Calls.AccessEnding.{AccessesReader, FailsReader, SaysEnding, ending_after};
 
-use crate::access_errand::{NoErrand, OperationTexts, errand_of};
+use crate::access_errand::{OperationTexts, errand_words, password_in};
 use crate::address::Address;
 use crate::connecting::connect;
 use crate::network::conclude;
@@ -13,7 +13,9 @@ use crate::timed::Timed;
 use llrp_commands::{AccessWords, USAGE, answer, texts_asked};
 use llrp_files::FAILED;
 use llrp_listing::{ToolErr, write_all};
-use llrp_operations::{AccessErr, Ending, Errand, Patience, WordErr, run_access};
+use llrp_operations::{
+    AccessErr, Ending, Errand, ErrandErr, OperationOption, Patience, WordErr, errand_of, run_access,
+};
 use llrp_stream::{Output, Sink};
 use std::alloc::{AllocError, Global};
 use std::net::TcpStream;
@@ -30,6 +32,23 @@ const DONE: u8 = 0;
 
 /// The exit status if the tag was not operated on as asked.
 const UNDONE: u8 = 1;
+
+/// What is written if the words say no operation.
+const NOTHING: &[u8] = b"error: one of '--read', '--write', '--epc' and '--lock' is required\n";
+
+/// What is written if --tag is no tag.
+const NO_TAG: &[u8] =
+    b"error: invalid value for '--tag <TAG>': expected hexadecimal digits of whole words, 31 at most, a tag URI or any\n";
+
+/// What is written if --epc is no tag URI.
+const NO_URI: &[u8] = b"error: invalid value for '--epc <URI>': expected a tag URI\n";
+
+/// What is written if there is more than an AccessSpec can have.
+const TOO_LONG: &[u8] = b"error: the operations are too long for an AccessSpec\n";
+
+/// What is written where a reader refused an AccessSpec of two C1G2TargetTags.
+const TARGETS: &[u8] =
+    b"llrp: hint: the AccessSpec has two C1G2TargetTags, and the reader may take one alone\n";
 
 /// The exit status if it is not known whether the tag was changed.
 const UNKNOWN: u8 = 4;
@@ -57,24 +76,41 @@ fn expected(error: WordErr) -> &'static [u8] {
     }
 }
 
-/// Writes why nothing is asked, and returns the exit status.
-fn refuse_errand<E: Sink>(no_errand: NoErrand, errors: &mut E) -> Result<u8, ToolErr>
+/// The option, with the form of its text.
+fn form_of(option: OperationOption) -> &'static [u8] {
+    match option {
+        OperationOption::Read => b"--read <BANK:WORD:COUNT>".as_slice(),
+        OperationOption::Write => b"--write <BANK:WORD=HEX>".as_slice(),
+        OperationOption::Lock => b"--lock <FIELD=HOW>".as_slice(),
+    }
+}
+
+/// Writes why a text of an option says no operation.
+fn refuse_text<E: Sink>(
+    option: OperationOption,
+    error: WordErr,
+    errors: &mut E,
+) -> Result<(), ToolErr>
     requires { CanWrite (E.log errors.old) }
 {
-    match no_errand {
-        NoErrand::Words(said) => write_all(errors, said)?,
-        NoErrand::Operation(option, error) => {
-            write_all(errors, b"error: invalid value for '")?;
-            write_all(errors, option)?;
-            write_all(errors, b"': ")?;
-            write_all(errors, expected(error))?;
-            write_all(errors, b"\n")?;
-        }
-        NoErrand::Password => {
-            write_all(errors, b"llrp: password\n")?;
-            return Ok(FAILED);
-        }
-        NoErrand::Memory => return answer(Err(ToolErr::Memory), errors),
+    write_all(errors, b"error: invalid value for '")?;
+    write_all(errors, form_of(option))?;
+    write_all(errors, b"': ")?;
+    write_all(errors, expected(error))?;
+    write_all(errors, b"\n")
+}
+
+/// Writes why the words ask for nothing, and returns the exit status.
+fn refuse_errand<E: Sink>(error: ErrandErr, errors: &mut E) -> Result<u8, ToolErr>
+    requires { CanWrite (E.log errors.old) }
+{
+    match error {
+        ErrandErr::Tag => write_all(errors, NO_TAG)?,
+        ErrandErr::Uri => write_all(errors, NO_URI)?,
+        ErrandErr::Text(option, error) => refuse_text(option, error, errors)?,
+        ErrandErr::Nothing => write_all(errors, NOTHING)?,
+        ErrandErr::TooLong => write_all(errors, TOO_LONG)?,
+        ErrandErr::Memory => return answer(Err(ToolErr::Memory), errors),
     }
     write_all(errors, b"\nFor more information, try '--help'.\n")?;
     Ok(USAGE)
@@ -87,6 +123,16 @@ fn say<E: Sink>(line: &[u8], status: u8, errors: &mut E) -> Result<u8, ToolErr>
 {
     write_all(errors, line)?;
     Ok(status)
+}
+
+/// Writes the line of a status by which a reader refused an AccessSpec of two C1G2TargetTags, and a hint at them.
+#[tactic(auto, using(llrp_stream::proofs::WritingLemmas::wrote_more))]
+fn say_targets<E: Sink>(status: u16, errors: &mut E) -> Result<u8, ToolErr>
+    requires { CanWrite (E.log errors.old) }
+    ensures { IfOk result (SaysEnding (Ending.RefusedTargets status) (E.log errors.old) (E.log errors.new)) }
+{
+    answer(Err(ToolErr::Peer(status)), errors)?;
+    say(TARGETS, UNDONE, errors)
 }
 
 /// Says what came of it in a line, if not all was done, and returns the exit status.
@@ -103,12 +149,13 @@ pub fn say_ending<E: Sink>(ending: Ending, errors: &mut E) -> Result<u8, ToolErr
         Ending::NoTag => say(b"llrp: no tag\n", UNDONE, errors),
         Ending::Unknown => say(b"llrp: unknown, read again\n", UNKNOWN, errors),
         Ending::Refused(status) => answer(Err(ToolErr::Peer(status)), errors),
+        Ending::RefusedTargets(status) => say_targets(status, errors),
         Ending::Broken(cause) => answer(Err(cause), errors),
     }
 }
 
 /// What it comes to that there is no ending: where a tag may have been changed, that it is not known.
-fn ending_after(error: AccessErr) -> Ending
+pub fn ending_after(error: AccessErr) -> Ending
     ensures { result ≡ ending_after error }
 {
     if error.may_have_changed {
@@ -152,9 +199,12 @@ pub fn access(
     texts: &OperationTexts<'_>,
 ) -> Result<u8, ToolErr> {
     let mut errors = Output::new(rt.stderr());
-    let asked = match errand_of(rt, words, texts) {
+    let asked = match errand_of(rt.alloc(), errand_words(words, texts)) {
         Ok(asked) => asked,
-        Err(no_errand) => return refuse_errand(no_errand, &mut errors),
+        Err(error) => return refuse_errand(error, &mut errors),
+    };
+    let Some(password) = password_in(rt, words.password_file) else {
+        return say(b"llrp: password\n", FAILED, &mut errors);
     };
     let patience = patience_of(words);
     let limit = Duration::from_secs(patience.timeout as u64);
@@ -162,7 +212,7 @@ pub fn access(
         return conclude(None, &mut errors);
     };
     let mut shown = Output::new(rt.stdout());
-    match access_reader(rt, &stream, asked.errand(words), patience, &mut shown) {
+    match access_reader(rt, &stream, asked.errand(password), patience, &mut shown) {
         Ok(ending) => say_ending(ending, &mut errors),
         Err(error) => say_ending(ending_after(error), &mut errors),
     }

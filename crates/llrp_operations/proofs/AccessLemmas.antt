@@ -1,11 +1,10 @@
 -- When a client ends as done, and the lines that it prints.
-use Rattle.std.proofs.Common.{◌≡◌, ◌∙◌, ℕ, zero, suc, List, [], ◌∷◌, ◌++◌, Bool, true, false, if◌then◌else◌, ◌&&◌, ◌||◌, not, Option, Some, None, refl, sym, ap, subst, rules, drop, length, slice_index_or, append_assoc, arith, ◌+◌, ◌<◌, ◌⊎◌, inl, inr, Ok, Err}
+use Rattle.std.proofs.Common.{◌≡◌, ◌∙◌, ℕ, zero, suc, List, [], ◌∷◌, ◌++◌, Bool, true, false, if◌then◌else◌, ◌&&◌, ◌||◌, not, Option, Some, None, refl, sym, ap, subst, rules, drop, length, slice_index_or, append_assoc, arith, ◌+◌, ◌<◌, inl, inr, Ok, Err}
 use Rattle.std.specs.Borrow.{Bor}
 use Rattle.std.proofs.Math.Seq.{drop-cons}
 use Rattle.std.specs.List.{list_any}
 use Rattle.std.specs.Str.{bytes_eq}
 use Rattle.std.proofs.lemmas.Slice.Eq.{bytes_eq-Decides}
-use Rattle.llrp_stream.specs.Device.{SinkLog, SourceLog}
 use Rattle.llrp_tree.specs.Tree.{MessageTree, Tree}
 use Rattle.llrp_tree.specs.declared.node.Node.{Node}
 use Rattle.llrp_listing.specs.declared.outcome.ToolErr.{ToolErr}
@@ -13,10 +12,10 @@ use Rattle.llrp_operations.specs.declared.access.Ending.{Ending}
 use Rattle.llrp_operations.specs.declared.access.Ending.TheVariants as ending
 use Rattle.llrp_operations.specs.declared.access.Errand.{Errand}
 use Rattle.llrp_operations.specs.declared.course.Outcome.{Outcome}
-use Rattle.llrp_operations.specs.declared.course.Outcome.TheVariants.{Reported, Refused, Several, NoEpc, NoTag, Unknown, Broken}
+use Rattle.llrp_operations.specs.declared.course.Outcome.TheVariants.{Reported, Refused, RefusedTargets, Several, NoEpc, NoTag, Unknown, Broken}
 use Rattle.llrp_operations.specs.declared.operation.Operation.{Operation}
 use Rattle.llrp_operations.specs.declared.talk.Talked.{Talked}
-use Rattle.llrp_operations.specs.Calls.Access.{Accesses, DoneIsDoneToIt, IsAllDone, IsDoneToIt, IsMeant, SaysWhenDone, ending_for, ending_of, IsShown, epc_of, is_known, judged, line_of, lines_of, meant_in, results_of, tag_in, tag_of, undone}
+use Rattle.llrp_operations.specs.Calls.Access.{DoneIsDoneToIt, IsAllDone, IsMeant, SaysWhenDone, ending_for, ending_of, IsShown, epc_of, is_known, judged, line_of, lines_of, meant_in, results_of, tag_in, tag_of, undone}
 use Rattle.llrp_operations.specs.Calls.TagNames.{IsTagName}
 use Rattle.std.specs.Prelude.{IfOk, Result}
 use Rattle.llrp_operations.specs.Calls.Changes.{IsHeadAt, changes, is_done, is_meant, is_verified}
@@ -116,6 +115,7 @@ done_all e meant t d =
 never_done : (o : Outcome) (cause : ToolErr) → ending_of o cause ≡ ending.Done → ⊥
 never_done Reported cause h = cc
 never_done (Refused status) cause h = cc
+never_done (RefusedTargets status) cause h = cc
 never_done Several cause h = cc
 never_done NoEpc cause h = cc
 never_done NoTag cause h = cc

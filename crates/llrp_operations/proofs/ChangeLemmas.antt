@@ -12,7 +12,7 @@ use Rattle.llrp_operations.specs.declared.course.Saying.{Saying}
 use Rattle.llrp_operations.specs.declared.course.Saying.TheVariants.{Asks, Acknowledges}
 use Rattle.llrp_operations.specs.declared.course.Stage.{Stage}
 use Rattle.llrp_operations.specs.declared.course.Stage.TheVariants.{Accepting, Asking, Seeking, Settling, Operating, Ended, Lost}
-use Rattle.llrp_operations.specs.Calls.Course.{Course, accept, answer, arms, finished, first_course, granted, hear, is_alone, is_lost, looks, noted, outcome, refused_or, say, selects, settled, silent, stands, tolerates}
+use Rattle.llrp_operations.specs.Calls.Course.{Course, accept, answer, arms, finished, first_course, granted, hear, is_alone, is_lost, looks, noted, outcome, refused_by, refused_or, say, selects, settled, silent, stands, tolerates}
 use Rattle.llrp_operations.specs.Calls.CourseLaws.{AdmitsChange, Event, Hears, Silence, Loss, after, denies_change, enables, follow}
 
 -- a course that changes a tag knows whether it enabled the AccessSpec
@@ -71,9 +71,9 @@ granted_keeps RemoveAccess c k = says RemoveInventory c k
 granted_keeps RemoveInventory c k = says Close c k
 granted_keeps Close c k = same c (record c { stage = Ended }) refl refl refl k
 
-answered_by : (d : Demand) (status : ℕ) (c : Course) (b : Bool) → Knows c → Knows (if b then granted d c else say RemoveAccess (record c { refused = Some status }))
+answered_by : (d : Demand) (status : ℕ) (c : Course) (b : Bool) → Knows c → Knows (if b then granted d c else say RemoveAccess (refused_by d status c))
 answered_by d status c true k = granted_keeps d c k
-answered_by d status c false k = says RemoveAccess (record c { refused = Some status }) (same c (record c { refused = Some status }) refl refl refl k)
+answered_by d status c false k = says RemoveAccess (refused_by d status c) (same c (refused_by d status c) refl refl refl k)
 
 answer_keeps : (s : Stage) (status : ℕ) (c : Course) → Knows c → Knows (answer s status c)
 answer_keeps Accepting status c k = k
@@ -161,22 +161,23 @@ follow_keeps (event ∷ events) c k = follow_keeps events (after event c) (after
 
 -- ---- what is said of it
 
-by_refusal : (o : Option ℕ) (several : Bool) → denies_change (refused_or o (if several then Several else Unknown)) ≡ false
-by_refusal (Some status) several = refl
-by_refusal None true = refl
-by_refusal None false = refl
+by_refusal : (o : Option ℕ) (targets several : Bool) → denies_change (refused_or o targets (if several then Several else Unknown)) ≡ false
+by_refusal (Some status) true several = refl
+by_refusal (Some status) false several = refl
+by_refusal None targets true = refl
+by_refusal None targets false = refl
 
-by_loss : (lost several : Bool) (o : Option ℕ) → denies_change (if lost then Unknown else refused_or o (if several then Several else Unknown)) ≡ false
-by_loss true several o = refl
-by_loss false several o = by_refusal o several
+by_loss : (lost targets several : Bool) (o : Option ℕ) → denies_change (if lost then Unknown else refused_or o targets (if several then Several else Unknown)) ≡ false
+by_loss true targets several o = refl
+by_loss false targets several o = by_refusal o targets several
 
-by_report : (reported lost several : Bool) (o : Option ℕ)
-    → denies_change (if reported then Reported else if lost then Unknown else refused_or o (if several then Several else Unknown)) ≡ false
-by_report true lost several o = refl
-by_report false lost several o = by_loss lost several o
+by_report : (reported lost targets several : Bool) (o : Option ℕ)
+    → denies_change (if reported then Reported else if lost then Unknown else refused_or o targets (if several then Several else Unknown)) ≡ false
+by_report true lost targets several o = refl
+by_report false lost targets several o = by_loss lost targets several o
 
 admits : (c : Course) → c.armed ≡ true → c.changes ≡ true → denies_change (outcome c) ≡ false
-admits c armed changes = rw (armed, changes) (by_report c.reported (is_lost c.stage) c.several c.refused)
+admits c armed changes = rw (armed, changes) (by_report c.reported (is_lost c.stage) c.refused_targets c.several c.refused)
 
 pub admits_change : AdmitsChange
 admits_change mask events h =

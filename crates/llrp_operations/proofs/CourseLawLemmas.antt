@@ -12,7 +12,7 @@ use Rattle.llrp_operations.specs.declared.course.Saying.{Saying}
 use Rattle.llrp_operations.specs.declared.course.Saying.TheVariants.{Asks, Acknowledges}
 use Rattle.llrp_operations.specs.declared.course.Stage.{Stage}
 use Rattle.llrp_operations.specs.declared.course.Stage.TheVariants.{Accepting, Asking, Seeking, Settling, Operating, Ended, Lost}
-use Rattle.llrp_operations.specs.Calls.Course.{Course, accept, answer, finished, first_course, granted, hear, is_alone, looks, noted, say, selects, settled, silent, stands, tolerates}
+use Rattle.llrp_operations.specs.Calls.Course.{Course, accept, answer, finished, first_course, granted, hear, is_alone, looks, noted, refused_by, say, selects, settled, silent, stands, tolerates}
 use Rattle.llrp_operations.specs.Calls.CourseLaws.{ChangesOne, Event, Hears, Silence, Loss, SawOne, adds, after, follow}
 
 -- before the AccessSpec is added
@@ -105,9 +105,9 @@ granted_keeps mask RemoveInventory c at h = say_keeps mask Close c refl (λ e. a
 granted_keeps mask Close c at h = staged mask Ended c (λ e. absurd (never e)) h
 
 answered_by : (mask : List ℕ) (d : Demand) (status : ℕ) (c : Course) (b : Bool) → c.stage ≡ Asking d → Holds mask c
-    → Holds mask (if b then granted d c else say RemoveAccess (record c { refused = Some status }))
+    → Holds mask (if b then granted d c else say RemoveAccess (refused_by d status c))
 answered_by mask d status c true at h = granted_keeps mask d c at h
-answered_by mask d status c false at h = removes mask (record c { refused = Some status }) (record { changes = h.changes; own = h.own; none = h.none; one = h.one })
+answered_by mask d status c false at h = removes mask (refused_by d status c) (record { changes = h.changes; own = h.own; none = h.none; one = h.one })
 
 answer_keeps : (mask : List ℕ) (s : Stage) (status : ℕ) (c : Course) → c.stage ≡ s → Holds mask c → Holds mask (answer s status c)
 answer_keeps mask Accepting status c at h = h

@@ -10,7 +10,7 @@ use Rattle.llrp_operations.specs.declared.course.Saying.{Saying}
 use Rattle.llrp_operations.specs.declared.course.Saying.TheVariants.{Asks, Acknowledges}
 use Rattle.llrp_operations.specs.declared.course.Stage.{Stage}
 use Rattle.llrp_operations.specs.declared.course.Stage.TheVariants.{Accepting, Asking, Seeking, Settling, Operating, Ended, Lost}
-use Rattle.llrp_operations.specs.Calls.Course.{Course, accept, answer, finished, first_course, granted, hear, is_alone, looks, noted, say, selects, settled, silent, stands, tolerates}
+use Rattle.llrp_operations.specs.Calls.Course.{Course, accept, answer, finished, first_course, granted, hear, is_alone, looks, noted, refused_by, say, selects, settled, silent, stands, tolerates}
 use Rattle.llrp_operations.specs.Calls.CourseLaws.{BeginsWithDeletions, DeletedBoth, DeletesBoth, Event, Hears, Silence, Loss, after, demands_in, follow}
 
 -- ---- what was asked so far, by the stage
@@ -151,9 +151,9 @@ refused_begun RemoveInventory zero ds e h = absurd (or_true zero e)
 refused_begun Close zero ds e h = absurd (or_true zero e)
 
 answered_by : (d : Demand) (status : ℕ) (c : Course) (b : Bool) → ((status == 0) || tolerates d) ≡ b → Asked d (demands_in c.said)
-    → Holds (if b then granted d c else say RemoveAccess (record c { refused = Some status }))
+    → Holds (if b then granted d c else say RemoveAccess (refused_by d status c))
 answered_by d status c true is h = granted_keeps d c h
-answered_by d status c false is h = removes (record c { refused = Some status }) (refused_begun d (status == 0) (demands_in c.said) is h)
+answered_by d status c false is h = removes (refused_by d status c) (refused_begun d (status == 0) (demands_in c.said) is h)
 
 at_stage : (s : Stage) (c : Course) → c.stage ≡ s → Holds c → At s (demands_in c.said)
 at_stage s c e h = subst (λ (x : Stage). At x (demands_in c.said)) e h

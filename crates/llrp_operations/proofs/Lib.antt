@@ -3,6 +3,7 @@ pub mod ChangeLemmas
 pub mod ConversationLemmas
 pub mod CourseLawLemmas
 pub mod DeletionLemmas
+pub mod ErrandLemmas
 pub mod LineLemmas
 pub mod ResultLemmas
 pub mod TargetLemmas

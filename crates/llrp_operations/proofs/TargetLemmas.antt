@@ -1,20 +1,20 @@
 -- The AccessSpec of a request fits the tags with its EPC, and no others.
-use Rattle.std.proofs.Common.{◌≡◌, ◌∙◌, ℕ, zero, suc, ◌+◌, ◌*◌, ◌/◌, ◌%◌, ◌^◌, ◌<◌, ◌≤◌, Bool, true, false, ◌&&◌, List, [], ◌∷◌, ◌++◌, length, take, drop, refl, sym, ap, subst, rules, arith, replicate, append_assoc}
-use Rattle.std.specs.Prelude.{filter, slice_index, ◌==◌}
+use Rattle.std.proofs.Common.{◌≡◌, ◌∙◌, ℕ, zero, suc, ◌+◌, ◌*◌, ◌/◌, ◌%◌, ◌<◌, ◌≤◌, Bool, true, false, ◌&&◌, List, [], ◌∷◌, ◌++◌, length, take, drop, refl, sym, ap, rules, arith, replicate, append_assoc}
+use Rattle.std.specs.Prelude.{filter, slice_index}
 use Rattle.std.specs.Bool.{beq}
-use Rattle.std.specs.List.{flat_map, list_all}
-use Rattle.std.proofs.lemmas.List.{append-nil, drop-append-le, length-append, length-take, take_all}
+use Rattle.std.specs.List.{list_all}
+use Rattle.std.proofs.lemmas.List.{append-nil, length-append, take_all}
 use Rattle.tag_bits.specs.Digits.{digits, digits_of_bytes}
 use Rattle.tag_bits.proofs.ByteLemmas.{bytes-nil, bytes-cons, length-bytes, take-bytes}
-use Rattle.tag_bits.proofs.DigitLemmas.{digits-injective, length-digits, take-digits, take-seam, drop-seam}
+use Rattle.tag_bits.proofs.DigitLemmas.{digits-injective, length-digits, take-digits}
 use Rattle.tag_memory.specs.declared.bank.Bank.TheVariants.{Epc}
 use Rattle.tag_memory.specs.Calls.Memory.{Memory}
 use Rattle.llrp_access.specs.Calls.Targets.{Pattern, agrees, bits_of, hits, stands}
 use Rattle.llrp_access.proofs.BitLemmas.{agree_ones, ones, past_words, two_octets}
-use Rattle.llrp_schema.specs.declared.kinds.ParamKind.TheVariants.{WholeAccessCommand, WholeC1G2TagSpec}
+use Rattle.llrp_schema.specs.declared.kinds.ParamKind.TheVariants.{WholeC1G2TagSpec}
 use Rattle.llrp_schema.specs.Schema.{number_of, param_rule, rule_of}
 use Rattle.llrp_tree.specs.Lawful.{AreOctets}
-use Rattle.llrp_tree.specs.Tree.{Tree, forest, trees}
+use Rattle.llrp_tree.specs.Tree.{Tree, trees}
 use Rattle.llrp_tree.proofs.SpelledLemmas.{same_octets}
 use Rattle.llrp_tree.proofs.TreeLemmas.{trees-forest}
 use Rattle.llrp_operations.specs.declared.operation.Operation.{Operation}
@@ -22,7 +22,7 @@ use Rattle.llrp_operations.specs.declared.operation.Operation.TheVariants.{Read,
 use Rattle.llrp_operations.specs.declared.request.Request.{Request}
 use Rattle.llrp_operations.specs.Calls.Operations.{access_command, access_spec, epc_target, length_target, operation_spec, operation_specs, tag_spec, target_tail, targets, words_octets}
 use Rattle.llrp_operations.specs.Calls.Results.{is_parameter}
-use Rattle.llrp_operations.specs.Calls.Targets.{AreWords, HasEpc, IsEpc, MeansEpc, MeansOneEpc, below, bits_in, fits, pattern_in, targets_of}
+use Rattle.llrp_operations.specs.Calls.Targets.{AreWords, IsEpc, MeansOneEpc, below, bits_in, fits, pattern_in, targets_of}
 
 -- ---- the C1G2TargetTags of an AccessSpec
 

@@ -3,6 +3,7 @@ pub mod Access
 pub mod Changes
 pub mod Course
 pub mod CourseLaws
+pub mod Errands
 pub mod Inventory
 pub mod Laws
 pub mod Lines

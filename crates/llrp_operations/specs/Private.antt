@@ -3,4 +3,5 @@ pub mod Changes
 pub mod Conversations
 pub mod Endings
 pub mod Sights
+pub mod Texts
 pub mod Words

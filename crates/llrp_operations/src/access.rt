@@ -48,6 +48,8 @@ pub enum Ending {
     Undone,
     /// The reader refused something with this status; nothing was done.
     Refused(u16),
+    /// With this status it refused an AccessSpec of two C1G2TargetTags, which it may not take; nothing was done.
+    RefusedTargets(u16),
     /// More than one tag was there that might be meant; nothing was done.
     Several,
     /// The tag that came has no EPC by which it can be named; nothing was done.
@@ -192,6 +194,7 @@ fn ending_of(outcome: Outcome, cause: ToolErr) -> Ending
     match outcome {
         Outcome::Reported => Ending::Undone,
         Outcome::Refused(status) => Ending::Refused(status),
+        Outcome::RefusedTargets(status) => Ending::RefusedTargets(status),
         Outcome::Several => Ending::Several,
         Outcome::NoEpc => Ending::NoEpc,
         Outcome::NoTag => Ending::NoTag,

@@ -59,6 +59,8 @@ pub enum Outcome {
     Reported,
     /// The reader refused something with this status; nothing was done.
     Refused(u16),
+    /// With this status it refused an AccessSpec of two C1G2TargetTags, which it may not take; nothing was done.
+    RefusedTargets(u16),
     /// More than one tag was there that might be meant; nothing was done.
     Several,
     /// The tag that came has no EPC by which it can be named; nothing was done.
@@ -100,6 +102,8 @@ pub struct Course<'a> {
     /// Whether it selects another one too.
     several: bool,
     refused: Option<u16>,
+    /// What was refused is the AccessSpec, which has two C1G2TargetTags.
+    refused_targets: bool,
     /// ENABLE_ACCESSSPEC was said.
     armed: bool,
     reported: bool,
@@ -165,6 +169,7 @@ impl<'a> Course<'a> {
             seen: None,
             several: false,
             refused: None,
+            refused_targets: false,
             armed: false,
             reported: false,
         }
@@ -258,6 +263,13 @@ impl<'a> Course<'a> {
         }
     }
 
+    /// Whether a demand is for an AccessSpec that names its tag, by two C1G2TargetTags.
+    fn names_tag(&self, demand: Demand) -> bool
+        ensures { result ≡ course.names_tag demand (course_of self.now []) }
+    {
+        matches!(demand, Demand::AddAccess) && !self.target().is_empty()
+    }
+
     /// Takes the answer to a demand.
     fn take_answer(
         &mut self,
@@ -270,6 +282,7 @@ impl<'a> Course<'a> {
         if status == 0 || tolerates(demand) {
             return self.go_on(demand, out);
         }
+        self.refused_targets = self.names_tag(demand);
         self.refused = Some(status);
         self.say(Demand::RemoveAccess, out)
     }
@@ -459,6 +472,7 @@ impl<'a> Course<'a> {
             };
         }
         match self.refused {
+            Some(status) if self.refused_targets => Outcome::RefusedTargets(status),
             Some(status) => Outcome::Refused(status),
             None => self.resultless(),
         }

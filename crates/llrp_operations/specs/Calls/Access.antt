@@ -1,5 +1,5 @@
 -- What a client that operates on a tag prints, and how it ends.
-use Rattle.std.specs.Prelude.{◌≡◌, ℕ, Bool, true, if◌then◌else◌, List, [], ◌∷◌, ◌++◌, ⊤, filter, find, Option, Some, None, option_map, unwrap_or, ◌&&◌, not, ◌⊎◌}
+use Rattle.std.specs.Prelude.{◌≡◌, ℕ, Bool, true, if◌then◌else◌, List, [], ◌∷◌, ◌++◌, filter, find, Option, Some, None, option_map, unwrap_or, ◌&&◌, not, ◌⊎◌}
 use Rattle.std.specs.List.{list_any}
 use Rattle.llrp_tree.specs.Tree.{MessageTree, Tree, trees}
 use Rattle.llrp_stream.specs.Device.{SourceLog, SinkLog, Wrote}
@@ -8,7 +8,7 @@ use Rattle.llrp_operations.specs.declared.access.Ending.{Ending}
 use Rattle.llrp_operations.specs.declared.access.Ending.TheVariants as ending
 use Rattle.llrp_operations.specs.declared.access.Errand.{Errand}
 use Rattle.llrp_operations.specs.declared.course.Outcome.{Outcome}
-use Rattle.llrp_operations.specs.declared.course.Outcome.TheVariants.{Reported, Refused, Several, NoEpc, NoTag, Unknown, Broken}
+use Rattle.llrp_operations.specs.declared.course.Outcome.TheVariants.{Reported, Refused, RefusedTargets, Several, NoEpc, NoTag, Unknown, Broken}
 use Rattle.llrp_operations.specs.declared.operation.Operation.{Operation}
 use Rattle.llrp_operations.specs.declared.talk.Talked.{Talked}
 use Rattle.llrp_operations.specs.Calls.Changes.{changes, is_done, is_meant, is_verified}
@@ -75,6 +75,7 @@ judged e meant tag =
 abbrev pub ending_of : Outcome → (cause : ToolErr) → Ending
 ending_of Reported cause = ending.Undone
 ending_of (Refused status) cause = ending.Refused status
+ending_of (RefusedTargets status) cause = ending.RefusedTargets status
 ending_of Several cause = ending.Several
 ending_of NoEpc cause = ending.NoEpc
 ending_of NoTag cause = ending.NoTag

@@ -8,7 +8,7 @@ use Rattle.llrp_operations.specs.declared.course.Demand.TheVariants.{ClearAccess
 use Rattle.llrp_operations.specs.declared.course.Heard.{Heard}
 use Rattle.llrp_operations.specs.declared.course.Heard.TheVariants.{Accepts, Answers, Keepalive, Sees, Results}
 use Rattle.llrp_operations.specs.declared.course.Outcome.{Outcome}
-use Rattle.llrp_operations.specs.declared.course.Outcome.TheVariants.{Reported, Refused, Several, NoEpc, NoTag, Unknown, Broken}
+use Rattle.llrp_operations.specs.declared.course.Outcome.TheVariants.{Reported, Refused, RefusedTargets, Several, NoEpc, NoTag, Unknown, Broken}
 use Rattle.llrp_operations.specs.declared.course.Saying.{Saying}
 use Rattle.llrp_operations.specs.declared.course.Saying.TheVariants.{Asks, Acknowledges}
 use Rattle.llrp_operations.specs.declared.course.Stage.{Stage}
@@ -22,6 +22,7 @@ pub record Course : Type 0 where
   pub seen : Option (List ℕ)  -- the first EPC that the mask selects; of no octets where the tag cannot be named
   pub several : Bool  -- it selects another one too
   pub refused : Option ℕ  -- the status by which the reader refused something
+  pub refused_targets : Bool  -- that is the AccessSpec, which has two C1G2TargetTags
   pub armed : Bool  -- ENABLE_ACCESSSPEC was said
   pub reported : Bool  -- the results came
   pub said : List Saying  -- all that was said
@@ -35,6 +36,7 @@ course_of c said = record {
   seen = option_map (λ epc. epc.items) c.seen;
   several = c.several;
   refused = c.refused;
+  refused_targets = c.refused_targets;
   armed = c.armed;
   reported = c.reported;
   said = said;
@@ -42,7 +44,7 @@ course_of c said = record {
 
 -- the client is connected, and the reader has not accepted it yet
 abbrev pub first_course : (mask : List ℕ) (changes : Bool) → Course
-first_course mask changes = record { mask = mask; changes = changes; stage = Accepting; seen = None; several = false; refused = None; armed = false; reported = false; said = [] }
+first_course mask changes = record { mask = mask; changes = changes; stage = Accepting; seen = None; several = false; refused = None; refused_targets = false; armed = false; reported = false; said = [] }
 
 -- ---- what is said
 
@@ -125,8 +127,19 @@ tolerates _ = false
 
 -- ---- what comes
 
+-- the demand is for an AccessSpec that names its tag: it has two C1G2TargetTags (`targets`), of which a reader may take one alone
+abbrev pub adds_access : Demand → Bool
+adds_access AddAccess = true
+adds_access _ = false
+
+abbrev pub names_tag : Demand → Course → Bool
+names_tag d c = adds_access d && not (bytes_eq (target c) [])
+
+abbrev pub refused_by : Demand → ℕ → Course → Course
+refused_by d status c = record c { refused = Some status; refused_targets = names_tag d c }
+
 abbrev pub answered : Demand → ℕ → Course → Course
-answered d status c = if (status == 0) || tolerates d then granted d c else say RemoveAccess (record c { refused = Some status })
+answered d status c = if (status == 0) || tolerates d then granted d c else say RemoveAccess (refused_by d status c)
 
 abbrev pub answer : Stage → ℕ → Course → Course
 answer (Asking d) status c = answered d status c
@@ -179,9 +192,9 @@ abbrev pub is_lost : Stage → Bool
 is_lost Lost = true
 is_lost _ = false
 
-abbrev pub refused_or : Option ℕ → Outcome → Outcome
-refused_or (Some status) outcome = Refused status
-refused_or None outcome = outcome
+abbrev pub refused_or : Option ℕ → (targets : Bool) → Outcome → Outcome
+refused_or (Some status) targets outcome = if targets then RefusedTargets status else Refused status
+refused_or None targets outcome = outcome
 
 -- the reader may have changed a tag without a report: an AccessSpec that changes one was enabled
 abbrev pub may_have_changed : Course → Bool
@@ -200,7 +213,7 @@ abbrev pub outcome : Course → Outcome
 outcome c =
     if c.reported then Reported
     else if is_lost c.stage then (if may_have_changed c then Unknown else Broken)
-    else refused_or c.refused (resultless c)
+    else refused_or c.refused c.refused_targets (resultless c)
 
 -- ---- calls that say nothing
 

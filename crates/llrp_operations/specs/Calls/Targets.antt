@@ -6,7 +6,7 @@ use Rattle.tag_memory.specs.declared.bank.Bank.{Bank}
 use Rattle.tag_memory.specs.declared.bank.Bank.TheVariants.{Reserved, Epc, Tid, User}
 use Rattle.tag_memory.specs.Calls.Memory.{Memory}
 use Rattle.llrp_access.specs.Calls.Targets.{Pattern, hits}
-use Rattle.llrp_schema.specs.declared.kinds.ParamKind.TheVariants.{WholeAccessCommand, WholeC1G2TagSpec, WholeC1G2TargetTag}
+use Rattle.llrp_schema.specs.declared.kinds.ParamKind.TheVariants.{WholeAccessCommand, WholeC1G2TagSpec}
 use Rattle.llrp_tree.specs.Lawful.{AreOctets}
 use Rattle.llrp_tree.specs.Tree.{Tree, trees}
 use Rattle.llrp_operations.specs.declared.request.Request.{Request}

@@ -1,4 +1,4 @@
-use Rattle.std.proofs.Common.{◌≡◌, ◌∙◌, ℕ, List, subst, sym}
+use Rattle.std.proofs.Common.{◌∙◌, ℕ, List, subst, sym}
 use Rattle.llrp_operations.specs.Calls.TagNames.{IsTagName}
 use Rattle.llrp_operations.proofs.AccessLemmas.{shown_so}
 use Rattle.llrp_operations.proofs.access.shown_of.Goals as goal

@@ -24,7 +24,7 @@ pub returns-in_err-try_turn-clause-failed : goal.returns-in_err-try_turn-clause-
 returns-in_err-try_turn-clause-failed g c =
     let p = err_from_is_err_and c.from_residual.result c.from_residual.ensures.1 in
     rw (p.1, p.2) (breaks_in_turn c.turns._turn c.args.conversation.now c.turns.conversation _ _ _ _ _ _ c.turns.out.items c.in_err-try_turn.field-0.0
-        c.turns.invariant.turns (sym c.stands.ensures ∙ c.if-not-stands.false) c.begin_wait.ensures c.in_err-try_turn.ensures.failed)
+    c.turns.invariant.turns (sym c.stands.ensures ∙ c.if-not-stands.false) c.begin_wait.ensures c.in_err-try_turn.ensures.failed)
 
 pub returns-clause-failed : goal.returns-clause-failed
 returns-clause-failed g c =
