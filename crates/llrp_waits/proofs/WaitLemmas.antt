@@ -1,14 +1,12 @@
 -- Courses end no later than their waits.
-use Rattle.std.proofs.Common.{◌≡◌, ◌+◌, ◌-◌, ◌<◌, ◌≤◌, ◌⊎◌, ◌&&◌, not, inl, inr, ⊎_elim, ℕ, min, List, [], ◌∷◌, Option, None, Some, Bool, true, false, if◌then◌else◌, refl, ap, ◌∙◌, sym, subst, rules, arith, le_refl}
+use Rattle.std.proofs.Common.{◌≡◌, ◌+◌, ◌≤◌, ◌&&◌, not, inl, inr, ⊎_elim, ℕ, List, [], ◌∷◌, Option, None, Some, Bool, true, false, if◌then◌else◌, refl, ◌∙◌, sym, subst, arith, le_refl}
 use Rattle.llrp_waits.specs.declared.head.Head.{Head}
 use Rattle.llrp_waits.specs.declared.wait.Wait.{Wait}
-use Rattle.llrp_waits.specs.declared.waits.Awaited.{Awaited}
-use Rattle.llrp_waits.specs.declared.waits.Awaited.TheVariants.{Acceptance, Answer, Reports}
-use Rattle.llrp_waits.specs.declared.waits.Cut.{Cut}
+use Rattle.llrp_waits.specs.declared.waits.Awaited.TheVariants.{Answer}
 use Rattle.llrp_waits.specs.declared.waits.Waits.{Waits}
-use Rattle.llrp_waits.specs.Calls.Heads.{answers, is_awaited}
-use Rattle.llrp_waits.specs.Calls.Waits.{asks, awaited_wait, frame_wait, hears, is_ended_by, is_own, left, left_in, left_of, silence_wait, sooner, takes}
-use Rattle.llrp_waits.specs.Calls.WaitLaws.{after, after_event, Answers, Asked, Event, Heard, IsOpen, IsWithin, KeepsTime, last_moment, NoAnswerInTime, NoCourseWaitsLonger, NoneAnswers, Passes, StaysOpen, Took, Turn, WholeInTime}
+use Rattle.llrp_waits.specs.Calls.Heads.{is_awaited}
+use Rattle.llrp_waits.specs.Calls.Waits.{asks, awaited_wait, frame_wait, is_ended_by, is_own, left, left_in, left_of, silence_wait, sooner}
+use Rattle.llrp_waits.specs.Calls.WaitLaws.{after, after_event, Answers, Asked, Event, Heard, IsOpen, IsWithin, KeepsTime, last_moment, NoAnswerInTime, NoCourseWaitsLonger, NoneAnswers, Passes, Took, Turn, WholeInTime}
 
 sooner_first : (a b : Option ℕ) (most : ℕ) → IsWithin most a → IsWithin most (sooner a b)
 sooner_first None b most h = absurd h

@@ -1,5 +1,6 @@
 //! Laws of waits.
 
+ghost use Rattle.llrp_waits.specs.Calls.Repeats.{OneAMinute};
 ghost use Rattle.llrp_waits.specs.Calls.WaitLaws.{EachWaitBounds, NoAnswerInTime, NoCourseWaitsLonger, OverIsOver, WholeInTime, WritesInTime};
 
 /// A read may last no longer than is left of each wait that is open, and not at all once one is over.
@@ -27,4 +28,9 @@ pub fn whole_in_time()
 /// A write may last no longer than is left of its wait.
 pub fn writes_in_time()
     ensures { WritesInTime }
+{}
+
+/// However many notes of one kind come, a minute passes between two that are written.
+pub fn one_a_minute()
+    ensures { OneAMinute }
 {}

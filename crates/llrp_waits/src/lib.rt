@@ -13,9 +13,11 @@
 
 mod head;
 pub mod laws;
+mod repeats;
 mod wait;
 mod waits;
 
 pub use head::Head;
+pub use repeats::{MINUTE, Repeats};
 pub use wait::{Wait, sooner};
 pub use waits::{Awaited, Bounds, Cut, Waits};
