@@ -85,19 +85,28 @@ fn form_of(option: OperationOption) -> &'static [u8] {
     }
 }
 
-/// Writes why a text of an option says no operation.
+/// Writes what is wrong with the words, and where there is help, and returns the exit status.
+fn refuse<E: Sink>(said: &[u8], errors: &mut E) -> Result<u8, ToolErr>
+    requires { CanWrite (E.log errors.old) }
+{
+    write_all(errors, said)?;
+    write_all(errors, b"\nFor more information, try '--help'.\n")?;
+    Ok(USAGE)
+}
+
+/// Writes why a text of an option says no operation, and returns the exit status.
 fn refuse_text<E: Sink>(
     option: OperationOption,
     error: WordErr,
     errors: &mut E,
-) -> Result<(), ToolErr>
+) -> Result<u8, ToolErr>
     requires { CanWrite (E.log errors.old) }
 {
     write_all(errors, b"error: invalid value for '")?;
     write_all(errors, form_of(option))?;
     write_all(errors, b"': ")?;
     write_all(errors, expected(error))?;
-    write_all(errors, b"\n")
+    refuse(b"\n", errors)
 }
 
 /// Writes why the words ask for nothing, and returns the exit status.
@@ -105,15 +114,13 @@ fn refuse_errand<E: Sink>(error: ErrandErr, errors: &mut E) -> Result<u8, ToolEr
     requires { CanWrite (E.log errors.old) }
 {
     match error {
-        ErrandErr::Tag => write_all(errors, NO_TAG)?,
-        ErrandErr::Uri => write_all(errors, NO_URI)?,
-        ErrandErr::Text(option, error) => refuse_text(option, error, errors)?,
-        ErrandErr::Nothing => write_all(errors, NOTHING)?,
-        ErrandErr::TooLong => write_all(errors, TOO_LONG)?,
-        ErrandErr::Memory => return answer(Err(ToolErr::Memory), errors),
+        ErrandErr::Tag => refuse(NO_TAG, errors),
+        ErrandErr::Uri => refuse(NO_URI, errors),
+        ErrandErr::Text(option, error) => refuse_text(option, error, errors),
+        ErrandErr::Nothing => refuse(NOTHING, errors),
+        ErrandErr::TooLong => refuse(TOO_LONG, errors),
+        ErrandErr::Memory => answer(Err(ToolErr::Memory), errors),
     }
-    write_all(errors, b"\nFor more information, try '--help'.\n")?;
-    Ok(USAGE)
 }
 
 /// Writes a line, and returns the exit status that goes with it.
