@@ -229,7 +229,8 @@ def checks_of_watch(program, entries):
     """Yields whether the helps, the manual page and docs/client.md have the defaults of `watch` and `stop` that the sources have."""
     plan, run = text_of("crates/llrp/src/watch_plan.rt"), text_of("crates/llrp/src/watch.rt")
     own, alive = (re.search(rf"pub const {name}: u\d+ = (\d+);", plan)[1] for name in ("OWN_ID", "KEEPALIVE"))
-    patience, periods = (re.search(rf"const {name}: u\d+ = (\d+);", run)[1] for name in ("PATIENCE", "SILENT_PERIODS"))
+    patience = re.search(r"const PATIENCE: u\d+ = (\d+);", run)[1]
+    periods = re.search(r"const SILENT_PERIODS: u\d+ = (\d+);", text_of("crates/llrp/src/patience.rt"))[1]
     every = re.search(r"words\.every\.unwrap_or\((\d+)\)", run)[1]
     port = re.search(r"const LLRP_PORT: u16 = (\d+);", text_of("crates/llrp/src/address.rt"))[1]
     watch, stop = output(program, "watch", "--help"), output(program, "stop", "--help")
@@ -238,7 +239,7 @@ def checks_of_watch(program, entries):
     yield "the default of --keepalive", f"without it {alive}, " in watch and f"; {alive} by default." in entries["-keepalive"]
     is_told = f", and {every} by default." in entries["-every"]
     yield "the default of --every of watch", f"make a report; without it {every}\n" in watch and is_told
-    is_told = f"those of .Cm stop {patience} seconds." in entries["-timeout"]
+    is_told = f"it is how long all of it may take, {patience} seconds by default." in entries["-timeout"]
     yield "the default of --timeout of stop", f"without it {patience}\n" in stop and is_told
     yield "the port of watch and stop", all(f"the port is {port} without one" in it for it in (watch, stop))
     told = (f"the id {own}", f"every {alive} seconds", f"{int(periods) * int(alive)} seconds")
@@ -255,11 +256,11 @@ FIGURES = (
     ("docs/sim.md", "and there are at most {} lines", ("llrp_endpoints/src/script.rt", "MOST_ENTRIES")),
     ("docs/sim.md", "and after {} lines, so an input without an end", ("llrp_endpoints/src/script.rt", "MOST_ENTRIES")),
     ("docs/sim.md", "with their own ids, {} octets of text at most", ("llrp_live/src/script_reader.rt", "LONGEST_LISTING")),
-    ("docs/client.md", "or has sent nothing for {} seconds, but no more than {} times.", ("llrp/src/farewell.rt", "PATIENCE"), ("llrp/src/farewell.rt", "MOST_READS")),
+    ("docs/client.md", "then reads until the reader closes the connection, for 5 seconds in all at most."),
     ("docs/client.md", "then `--settle` seconds ({}) for further ones", ("llrp/src/access_command.rt", "SETTLE")),
     ("docs/client.md", "It waits `--timeout` seconds ({}) for the connection", ("llrp/src/access_command.rt", "TIMEOUT")),
     ("docs/client.md", "It waits `--timeout` seconds for each of these, {} if nothing is said", ("llrp/src/ask.rt", "PATIENCE")),
-    ("docs/client.md", "until the time is up, {} seconds if nothing is said", ("llrp/src/watch.rt", "PATIENCE")),
+    ("docs/client.md", "All of this takes SECONDS at most, {} if nothing is said", ("llrp/src/watch.rt", "PATIENCE")),
     ("docs/capture.md", "At most {} connections may be open at once", ("llrp_capture/src/connections.rt", "MOST_CONNECTIONS")),
 )
 

@@ -9,7 +9,8 @@ use crate::access_errand::{OperationTexts, errand_words, password_in};
 use crate::address::Address;
 use crate::connecting::connect;
 use crate::network::conclude;
-use crate::timed::Timed;
+use crate::timed::{TimedReads, TimedWrites};
+use crate::waiting::{Waiting, own_bounds};
 use llrp_commands::{AccessWords, USAGE, answer, texts_asked};
 use llrp_files::FAILED;
 use llrp_listing::{ToolErr, write_all};
@@ -19,7 +20,6 @@ use llrp_operations::{
 use llrp_stream::{Output, Sink};
 use std::alloc::{AllocError, Global};
 use std::net::TcpStream;
-use std::time::Duration;
 
 /// For how many seconds further tags are waited for before a change, where nothing is said of it.
 const SETTLE: u16 = 1;
@@ -177,6 +177,7 @@ pub fn ending_after(error: AccessErr) -> Ending
 pub fn access_reader<P: Sink>(
     rt: &HostRuntime,
     stream: &TcpStream,
+    waiting: &Waiting<'_>,
     errand: Errand<'_>,
     patience: Patience,
     shown: &mut P,
@@ -185,8 +186,8 @@ pub fn access_reader<P: Sink>(
     ensures accesses { IfOk result (AccessesReader errand.entry (P.log shown.old) (P.log shown.new)) }
     ensures failed { IfErr result (FailsReader errand.entry) }
 {
-    let mut source = Timed::new(rt, stream);
-    let mut sink = Output::new(stream);
+    let mut source = TimedReads::new(rt.alloc(), waiting, stream);
+    let mut sink = TimedWrites::new(rt.alloc(), waiting, stream);
     run_access(rt.alloc(), errand, patience, &mut source, &mut sink, shown)
 }
 
@@ -214,12 +215,19 @@ pub fn access(
         return say(b"llrp: password\n", FAILED, &mut errors);
     };
     let patience = patience_of(words);
-    let limit = Duration::from_secs(patience.timeout as u64);
-    let Some(stream) = connect(rt, reader, Some(limit)) else {
+    let waiting = Waiting::new(rt, own_bounds(1_000 * patience.timeout as u64));
+    let Some(stream) = connect(rt, reader, &waiting) else {
         return conclude(None, &mut errors);
     };
     let mut shown = Output::new(rt.stdout());
-    match access_reader(rt, &stream, asked.errand(password), patience, &mut shown) {
+    match access_reader(
+        rt,
+        &stream,
+        &waiting,
+        asked.errand(password),
+        patience,
+        &mut shown,
+    ) {
         Ok(ending) => say_ending(ending, &mut errors),
         Err(error) => say_ending(ending_after(error), &mut errors),
     }

@@ -7,7 +7,8 @@ ghost use Rattle.llrp.specs.Calls.Ask.{AsksReader, ReadsNoSteps, ReadsSteps};
 use crate::address::Address;
 use crate::connecting::connect;
 use crate::network::conclude;
-use crate::timed::Timed;
+use crate::timed::{TimedReads, TimedWrites};
+use crate::waiting::{Waiting, own_bounds};
 use llrp_ask::{Form, Manner, Step, run_ask, steps_of};
 use llrp_commands::{AskWords, answer};
 use llrp_files::FAILED;
@@ -17,7 +18,6 @@ use llrp_texts::TextErr;
 use std::alloc::Global;
 use std::fs::File;
 use std::net::TcpStream;
-use std::time::Duration;
 
 /// For how many seconds it waits for a connection and for each answer where nothing is said of it.
 const PATIENCE: u16 = 10;
@@ -44,6 +44,7 @@ pub fn read_steps<R: Source>(alloc: Global, r: &mut R, raw: bool) -> Result<Vec<
 pub fn ask_reader<P: Sink>(
     rt: &HostRuntime,
     stream: &TcpStream,
+    waiting: &Waiting<'_>,
     steps: &[Step],
     manner: Manner,
     shown: &mut P,
@@ -51,8 +52,8 @@ pub fn ask_reader<P: Sink>(
     requires { IsFreshSink (P.log shown.old) }
     ensures { AsksReader manner steps.now (P.log shown.old) (P.log shown.new) result }
 {
-    let mut source = Timed::new(rt, stream);
-    let mut sink = Output::new(stream);
+    let mut source = TimedReads::new(rt.alloc(), waiting, stream);
+    let mut sink = TimedWrites::new(rt.alloc(), waiting, stream);
     run_ask(rt.alloc(), steps, manner, &mut source, &mut sink, shown)
 }
 
@@ -77,12 +78,13 @@ pub fn ask(rt: &HostRuntime, reader: Address<'_>, words: AskWords<'_>) -> Result
         Err(error) => return answer(Err(error), &mut errors),
     };
     let seconds = words.timeout.unwrap_or(PATIENCE);
-    let Some(stream) = connect(rt, reader, Some(Duration::from_secs(seconds as u64))) else {
+    let manner = manner_of(words, seconds);
+    let waiting = Waiting::new(rt, own_bounds(manner.patience));
+    let Some(stream) = connect(rt, reader, &waiting) else {
         return conclude(None, &mut errors);
     };
     let mut shown = Output::new(rt.stdout());
-    let manner = manner_of(words, seconds);
-    match ask_reader(rt, &stream, steps.as_slice(), manner, &mut shown) {
+    match ask_reader(rt, &stream, &waiting, steps.as_slice(), manner, &mut shown) {
         Ok(Verdict::Lawful) => Ok(0),
         Ok(Verdict::Faulty) => Ok(FAULTY),
         Err(error) => answer(Err(error), &mut errors),

@@ -1,20 +1,16 @@
-//! When a run is to end, and a source over a socket that does not wait past that.
+//! When a run is to end.
 
-ghost use Rattle.std.specs.Prelude.{◌≡◌, ◌≤◌, IfOk, None, length};
-ghost use Rattle.llrp_stream.specs.Calls.Device.{new_source};
-
-use llrp_stream::Source;
 use std::cell::Cell;
-use std::io;
-use std::io::Read;
-use std::net::TcpStream;
 use std::time::{Duration, Instant};
 
-/// For how many seconds a read still waits once the time is up.
-const GRACE: u64 = 1;
+/// How many seconds after its time a client learns at the latest that it is up, where nothing comes.
+const SILENT_GRACE: u64 = 1;
 
-/// For how many seconds the reader may be silent while the plan ends, if it need not show that it lives.
-const PATIENCE: u64 = 5;
+/// How many seconds after its time the plan of a client that knows this ends at the latest.
+const PLAN_GRACE: u64 = 4;
+
+/// How many seconds after its time a run has ended.
+const LAST_GRACE: u64 = 5;
 
 /// The moment after which a run of `seconds` ends, if it ends.
 pub fn end_after(rt: &HostRuntime, seconds: Option<u32>) -> Option<Instant> {
@@ -29,6 +25,14 @@ fn time_until(rt: &HostRuntime, until: Instant) -> Duration {
     match Instant::now(rt) {
         Ok(now) => until.checked_duration_since(now).unwrap_or(Duration::ZERO),
         Err(_) => Duration::ZERO,
+    }
+}
+
+/// How many milliseconds it is until so many seconds after a moment.
+fn milliseconds_until(rt: &HostRuntime, until: Instant, more: u64) -> u64 {
+    match until.checked_add(Duration::from_secs(more)) {
+        Some(end) => u64::try_from(time_until(rt, end).as_millis()).unwrap_or(u64::MAX),
+        None => u64::MAX,
     }
 }
 
@@ -78,81 +82,23 @@ impl Deadline {
         is_past(rt, self.until) && !self.was_told.get()
     }
 
-    /// How long a read may wait in a run that ends, where the reader may be silent for this long.
-    fn patience(&self, rt: &HostRuntime, silence: Option<Duration>) -> Option<Duration> {
-        if self.was_told.get() {
-            return Some(silence.unwrap_or(Duration::from_secs(PATIENCE)));
-        }
-        let left = time_until(rt, self.until?.checked_add(Duration::from_secs(GRACE))?);
-        Some(silence.unwrap_or(left).min(left))
-    }
-}
-
-/// The reads of a stream, which wait no longer than until the deadline.
-#[derive(Drop)]
-pub struct Until<'a> {
-    rt: &'a HostRuntime,
-    stream: &'a TcpStream,
-    deadline: &'a Deadline,
-    /// How long the reader may be silent, as the stream has it too.
-    silence: Option<Duration>,
-    reads: u64,
-    ends: u64,
-    failures: u64,
-}
-
-impl<'a> Until<'a> {
-    /// A source of which nothing was read.
-    pub fn new(
-        rt: &'a HostRuntime,
-        stream: &'a TcpStream,
-        deadline: &'a Deadline,
-        silence: Option<Duration>,
-    ) -> Until<'a>
-        ensures { ⟦<Until<'a> as Source>⟧.log result ≡ new_source None }
-    {
-        Until {
-            rt,
-            stream,
-            deadline,
-            silence,
-            reads: 0,
-            ends: 0,
-            failures: 0,
-        }
+    /// Whether the time is up.
+    pub fn is_up(&self, rt: &HostRuntime) -> bool {
+        is_past(rt, self.until)
     }
 
-    /// Reads what comes in time.
-    fn read_in_time(&self, buf: &mut [u8]) -> io::Result<usize>
-        ensures { IfOk result (λ n. n ≤ length buf.new) }
-    {
-        if let Some(patience) = self.deadline.patience(self.rt, self.silence) {
-            self.stream.set_read_timeout(Some(patience))?;
-        }
-        let mut stream = self.stream;
-        stream.read(buf)
+    /// How many milliseconds are left for what is read and written, in a run that ends.
+    pub fn left(&self, rt: &HostRuntime) -> Option<u64> {
+        let more = if self.was_told.get() {
+            PLAN_GRACE
+        } else {
+            SILENT_GRACE
+        };
+        Some(milliseconds_until(rt, self.until?, more))
     }
-}
 
-impl Source for Until<'_> {
-    ghost use Rattle.std.specs.Prelude.{None};
-
-    ghost log = { λ s. record { reads = s.reads; ends = s.ends; failures = s.failures; left = None } };
-
-    fn read(&mut self, buf: &mut [u8]) -> io::Result<usize> {
-        match self.read_in_time(buf) {
-            Ok(0) => {
-                self.ends += 1;
-                Ok(0)
-            }
-            Ok(n) => {
-                self.reads += 1;
-                Ok(n)
-            }
-            Err(error) => {
-                self.failures += 1;
-                Err(error)
-            }
-        }
+    /// How many milliseconds are left in which the client may leave its reader.
+    pub fn left_to_leave(&self, rt: &HostRuntime) -> Option<u64> {
+        Some(milliseconds_until(rt, self.until?, LAST_GRACE))
     }
 }

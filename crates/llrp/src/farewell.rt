@@ -4,20 +4,17 @@ ghost use Rattle.std.specs.Prelude.{◌≡◌, ◌++◌, IfOk, OnOk, true};
 ghost use Rattle.llrp_stream.specs.Device.{IsFreshSink};
 ghost use Rattle.llrp.specs.Calls.Farewell.{Leaves, farewell_text, disabling_text};
 
+use crate::timed::{TimedReads, TimedWrites};
+use crate::waiting::{NO_BOUNDS, Waiting};
 use llrp_commands::LIMIT;
 use llrp_listing::{Text, ToolErr, encode_listing, write_all};
 use llrp_schema::KindSet;
-use llrp_stream::{Output, Sink};
+use llrp_stream::Sink;
 use std::alloc::{AllocError, Global};
-use std::io::Read;
 use std::net::TcpStream;
-use std::time::Duration;
 
-/// For how many seconds a reader that sends nothing is waited for.
-const PATIENCE: u64 = 5;
-
-/// How many reads it may take until the reader has closed the connection.
-const MOST_READS: u32 = 1_000;
+/// How many milliseconds leaving takes at most.
+const PATIENCE: u64 = 5_000;
 
 /// Appends the line by which the ROSpec with this id is disabled.
 fn push_line(text: &mut Text, id: u32) -> Result<(), AllocError>
@@ -68,13 +65,12 @@ pub fn say_farewell<W: Sink>(
     encode_listing(alloc, KindSet::Profile, text.as_slice(), w, LIMIT)
 }
 
-/// Reads until the reader has closed the connection or has sent nothing for the time of `PATIENCE`, or until
-/// the greatest number of reads. What is read is not looked at. Returns whether the connection was closed.
-fn await_end(stream: &TcpStream) -> bool {
-    let mut reader = stream;
+/// Reads until the reader has closed the connection, or the time for that is over. What is read is not looked
+/// at. Returns whether the connection was closed.
+fn await_end(source: &TimedReads<'_>) -> bool {
     let mut piece = [0; 4_096];
-    for _ in 0..MOST_READS {
-        match reader.read(&mut piece) {
+    for _ in 0..u64::MAX {
+        match source.read_in_time(&mut piece) {
             Ok(0) => return true,
             Ok(_) => {}
             Err(_) => return false,
@@ -84,14 +80,25 @@ fn await_end(stream: &TcpStream) -> bool {
 }
 
 /// Deletes the ROSpec with this id, which is disabled first or not, and closes the connection, as far as
-/// the reader takes it. The frames in `before` are sent first. Returns whether the reader then closed the
-/// connection.
-pub fn leave(alloc: Global, stream: &TcpStream, before: &[u8], disables: bool, id: u32) -> bool {
-    let patience = Some(Duration::from_secs(PATIENCE));
-    let is_bounded = stream.set_read_timeout(patience).is_ok()
-        && stream.set_write_timeout(patience).is_ok();
-    is_bounded
-        && write_all(&mut Output::new(stream), before).is_ok()
-        && say_farewell(alloc, disables, id, &mut Output::new(stream)).is_ok()
-        && await_end(stream)
+/// the reader takes it within 5 seconds, or what is left of the time of the run. The frames in `before` are
+/// sent first. Returns whether the reader then closed the connection.
+pub fn leave(
+    rt: &HostRuntime,
+    stream: &TcpStream,
+    left: Option<u64>,
+    before: &[u8],
+    disables: bool,
+    id: u32,
+) -> bool {
+    let alloc = rt.alloc();
+    let waiting = Waiting::new(rt, NO_BOUNDS).within(left.unwrap_or(PATIENCE).min(PATIENCE));
+    write_all(&mut TimedWrites::new(alloc, &waiting, stream), before).is_ok()
+        && say_farewell(
+            alloc,
+            disables,
+            id,
+            &mut TimedWrites::new(alloc, &waiting, stream),
+        )
+        .is_ok()
+        && await_end(&TimedReads::new(alloc, &waiting, stream))
 }

@@ -7,7 +7,7 @@ ghost use Rattle.llrp_words.specs.Calls.Arguments.{IsLongest};
 ghost use Rattle.llrp_listing.specs.StreamListing.{fault_text};
 
 use crate::access::refused_status;
-use crate::notes::{Notes, Urgency};
+use crate::notes::{Kind, Notes, Urgency};
 use llrp_listing::{Text, reason_name};
 use llrp_schema::KindSet;
 use llrp_stream::{Decoder, Fed, Item};
@@ -29,9 +29,11 @@ fn fault_line(alloc: Global, id: u32, fault: Fault) -> Result<Text, AllocError>
     Ok(text)
 }
 
-/// Says that a frame is no message, and its first fault.
-fn say_fault(alloc: Global, notes: &Notes, id: u32, fault: Fault) {
-    notes.say(Urgency::Warning, b"a frame that is no message");
+/// Says that a frame is no message, and its first fault, at most once a minute.
+fn say_fault(alloc: Global, notes: &Notes<'_>, id: u32, fault: Fault) {
+    if !notes.say_one(Urgency::Warning, Kind::Fault) {
+        return;
+    }
     if let Ok(line) = fault_line(alloc, id, fault) {
         notes.say_lines(Urgency::Warning, line.as_slice());
     }
@@ -43,7 +45,7 @@ fn say_fault(alloc: Global, notes: &Notes, id: u32, fault: Fault) {
 pub struct FaultFinder<'a> {
     alloc: Global,
     decoder: Decoder,
-    notes: &'a Notes,
+    notes: &'a Notes<'a>,
     /// Whether messages on AccessSpecs are sent beside the plan.
     heeds_access: bool,
     /// With which status the reader refused the first of them.
@@ -54,7 +56,7 @@ impl<'a> FaultFinder<'a> {
     ghost use Rattle.llrp.specs.Calls.Refusals.{HasHeard, Hears, refused_by};
 
     /// A finder to which no octet came. A frame of more than `limit` octets is faulty.
-    pub fn new(alloc: Global, limit: u32, notes: &'a Notes) -> FaultFinder<'a>
+    pub fn new(alloc: Global, limit: u32, notes: &'a Notes<'a>) -> FaultFinder<'a>
         requires limit { IsLongest limit }
         ensures stands { StandsIn Standard result.decoder [] }
         ensures limit { result.decoder.limit ≡ limit }
@@ -70,7 +72,7 @@ impl<'a> FaultFinder<'a> {
     }
 
     /// A finder to which no octet came, for a connection with messages on AccessSpecs.
-    pub fn heeding(alloc: Global, limit: u32, notes: &'a Notes) -> FaultFinder<'a>
+    pub fn heeding(alloc: Global, limit: u32, notes: &'a Notes<'a>) -> FaultFinder<'a>
         requires limit { IsLongest limit }
         ensures { HasHeard limit [] result }
     {

@@ -1,15 +1,14 @@
 //! What --verbose says of the frames of a connection.
 
-ghost use Rattle.std.specs.Prelude.{◌≡◌, ◌<◌, IfSome, length};
+ghost use Rattle.std.specs.Prelude.{◌<◌, IfSome, length};
 
-use crate::notes::{Notes, Urgency};
-use crate::whole_frames::FrameCutter;
+use crate::notes::{Kind as Passed, Notes, Urgency};
 use llrp_listing::{Text, run_show_in};
 use llrp_schema::{Kind, KindSet, msg_of_in, name};
-use llrp_stream::{Front, Input, Output, Sink, front_of};
+use llrp_stream::{Front, Input, Output, front_of};
+use llrp_waits::Head;
 use std::alloc::{AllocError, Global};
 use std::cell::Cell;
-use std::io;
 
 /// The most octets of a frame that is looked at.
 pub const MOST_OCTETS: u32 = 1_048_576;
@@ -26,33 +25,28 @@ fn is_on_access(number: u16) -> bool {
     40 <= number && number <= 44
 }
 
-/// The request that waits for its response.
-#[derive(Clone, Copy, Debug, PartialEq, Eq)]
-pub struct Request {
-    /// The number of its type.
-    pub number: u16,
-    pub id: u32,
-}
-
-/// The request that a frame is, if it is one.
-fn request_of(frame: &[u8]) -> Option<Request> {
+/// The header of a frame.
+pub fn head_of(frame: &[u8]) -> Option<Head> {
     match frame {
-        [first, second, _, _, _, _, a, b, c, d, ..] => {
-            let number = u16::from_be_bytes([*first, *second]) & 1_023;
-            if number == KEEPALIVE_ACK || is_on_access(number) {
-                return None;
-            }
-            Some(Request {
-                number,
-                id: u32::from_be_bytes([*a, *b, *c, *d]),
-            })
-        }
+        [first, second, _, _, _, _, a, b, c, d, ..] => Some(Head {
+            number: u16::from_be_bytes([*first, *second]) & 1_023,
+            id: u32::from_be_bytes([*a, *b, *c, *d]),
+        }),
         _ => None,
     }
 }
 
+/// The request that a frame is, if it is one.
+pub fn request_of(frame: &[u8]) -> Option<Head> {
+    let head = head_of(frame)?;
+    if head.number == KEEPALIVE_ACK || is_on_access(head.number) {
+        return None;
+    }
+    Some(head)
+}
+
 /// The name of the request.
-fn request_name(request: Request) -> &'static str {
+fn request_name(request: Head) -> &'static str {
     match msg_of_in(KindSet::Standard, request.number) {
         Some(kind) => name(Kind::Message(kind)),
         None => "a request",
@@ -138,7 +132,7 @@ fn status_name(status: &str) -> &'static str {
 }
 
 /// Says what an event of the reader is.
-fn say_event(notes: &Notes, listing: &str) {
+fn say_event(notes: &Notes<'_>, listing: &str) {
     match field_of(listing, "ConnectionAttemptEvent") {
         Some("0") => notes.say(Urgency::Info, b"the reader accepted the connection"),
         Some(status) => notes.say_all(
@@ -156,13 +150,14 @@ fn say_event(notes: &Notes, listing: &str) {
 }
 
 /// Says what a message that is no answer is, if it is neither a report nor a KEEPALIVE.
-fn say_message(notes: &Notes, heading: Heading<'_>, listing: &str) {
+fn say_message(notes: &Notes<'_>, heading: Heading<'_>, listing: &str) {
     match heading.name {
         "RO_ACCESS_REPORT" | "KEEPALIVE" => {}
         "READER_EVENT_NOTIFICATION" => say_event(notes, listing),
         _ => {
-            notes.say(Urgency::Notice, b"a message that is passed over");
-            notes.say_lines(Urgency::Notice, listing.as_bytes());
+            if notes.say_one(Urgency::Notice, Passed::PassedOver) {
+                notes.say_lines(Urgency::Notice, listing.as_bytes());
+            }
         }
     }
 }
@@ -173,14 +168,14 @@ fn is_answer(name: &str) -> bool {
 }
 
 /// Whether a message with this heading answers this request.
-fn answers(heading: Heading<'_>, request: Request) -> bool {
+fn answers(heading: Heading<'_>, request: Head) -> bool {
     let has_id = heading.id.parse::<u32>() == Ok(request.id);
     let named = heading.name.strip_suffix("_RESPONSE");
     has_id && (heading.name == "ERROR_MESSAGE" || named == Some(request_name(request)))
 }
 
 /// Says that an answer is not awaited.
-fn say_unawaited(notes: &Notes, heading: Heading<'_>, listing: &str, pending: Option<Request>) {
+fn say_unawaited(notes: &Notes<'_>, heading: Heading<'_>, listing: &str, pending: Option<Head>) {
     let awaited = match pending {
         Some(request) => request_name(request),
         None => "none",
@@ -239,7 +234,7 @@ fn readable(alloc: Global, tail: &str) -> Result<Text, AllocError> {
 }
 
 /// Says the text that a reader gives to a refusal, if it gives one.
-fn say_text(alloc: Global, notes: &Notes, urgency: Urgency, listing: &str) {
+fn say_text(alloc: Global, notes: &Notes<'_>, urgency: Urgency, listing: &str) {
     let Some(tail) = tail_of(listing, "LLRPStatus") else {
         return;
     };
@@ -260,7 +255,13 @@ fn refusal_urgency(heading: Heading<'_>) -> Urgency {
 }
 
 /// Says that a request was refused.
-fn say_refused(alloc: Global, notes: &Notes, heading: Heading<'_>, listing: &str, status: &str) {
+fn say_refused(
+    alloc: Global,
+    notes: &Notes<'_>,
+    heading: Heading<'_>,
+    listing: &str,
+    status: &str,
+) {
     let urgency = refusal_urgency(heading);
     notes.say_all(
         urgency,
@@ -274,7 +275,7 @@ fn say_refused(alloc: Global, notes: &Notes, heading: Heading<'_>, listing: &str
 }
 
 /// Says an answer with another status than 0.
-fn say_status(alloc: Global, notes: &Notes, heading: Heading<'_>, listing: &str) {
+fn say_status(alloc: Global, notes: &Notes<'_>, heading: Heading<'_>, listing: &str) {
     match field_of(listing, "LLRPStatus") {
         Some("0") | None => {}
         Some(status) => say_refused(alloc, notes, heading, listing, status),
@@ -284,10 +285,10 @@ fn say_status(alloc: Global, notes: &Notes, heading: Heading<'_>, listing: &str)
 /// Says what is wrong with an answer, if something is.
 fn say_answer(
     alloc: Global,
-    notes: &Notes,
+    notes: &Notes<'_>,
     heading: Heading<'_>,
     listing: &str,
-    pending: Option<Request>,
+    pending: Option<Head>,
 ) {
     if !pending.is_some_and(|request| answers(heading, request)) {
         say_unawaited(notes, heading, listing, pending);
@@ -314,8 +315,8 @@ fn listing_of(alloc: Global, frame: &[u8]) -> Option<String> {
 /// AccessSpecs that was sent beside the plan.
 pub fn say_frame(
     alloc: Global,
-    notes: &Notes,
-    pending: &Cell<Option<Request>>,
+    notes: &Notes<'_>,
+    pending: &Cell<Option<Head>>,
     heeds_access: bool,
     frame: &[u8],
 ) {
@@ -346,52 +347,5 @@ pub fn split_frame(frames: &[u8]) -> Option<(&[u8], &[u8])>
             Some(frames.split_at(count as usize))
         }
         _ => None,
-    }
-}
-
-/// Passes each write on to a sink, and remembers the last request of it.
-#[derive(Drop)]
-pub struct Asking<'a, W: Sink + Drop> {
-    sink: W,
-    cutter: FrameCutter,
-    pending: &'a Cell<Option<Request>>,
-}
-
-impl<'a, W: Sink + Drop> Asking<'a, W> {
-    /// A sink to which nothing was written yet.
-    pub fn new(alloc: Global, sink: W, pending: &'a Cell<Option<Request>>) -> Asking<'a, W>
-        ensures { ⟦<Asking<'a, W> as Sink>⟧.log result ≡ W.log sink }
-    {
-        Asking {
-            sink,
-            cutter: FrameCutter::new(alloc, MOST_OCTETS),
-            pending,
-        }
-    }
-
-    /// Remembers the last request of these octets.
-    fn note(&mut self, octets: &[u8])
-        ensures { self.new.sink ≡ self.old.sink }
-    {
-        let Ok(frames) = self.cutter.take(octets) else {
-            return;
-        };
-        let mut rest = frames.as_slice();
-        while let Some((frame, others)) = split_frame(rest) {
-            if let Some(request) = request_of(frame) {
-                self.pending.set(Some(request));
-            }
-            rest = others;
-        }
-    }
-}
-
-impl<'a, W: Sink + Drop> Sink for Asking<'a, W> {
-    ghost log = { λ s. W.log s.sink };
-
-    fn write(&mut self, buf: &[u8]) -> io::Result<usize> {
-        let n = self.sink.write(buf)?;
-        self.note(buf.split_at(n).0);
-        Ok(n)
     }
 }

@@ -6,10 +6,11 @@ ghost use Rattle.llrp_stream.specs.Calls.Device.{CanRead, ReadStep};
 ghost use Rattle.llrp.specs.Calls.Refusals.{Hears};
 
 use crate::faults::FaultFinder;
-use crate::heard_frames::{MOST_OCTETS, Request, say_frame, split_frame};
+use crate::heard_frames::{MOST_OCTETS, say_frame, split_frame};
 use crate::notes::Notes;
 use crate::whole_frames::FrameCutter;
 use llrp_stream::Source;
+use llrp_waits::Head;
 use std::alloc::Global;
 use std::cell::Cell;
 use std::io;
@@ -24,8 +25,8 @@ pub struct Listening<'a, R: Source + Drop> {
     source: R,
     faults: FaultFinder<'a>,
     cutter: FrameCutter,
-    notes: &'a Notes,
-    pending: &'a Cell<Option<Request>>,
+    notes: &'a Notes<'a>,
+    pending: &'a Cell<Option<Head>>,
     /// How many reads failed without one of the source.
     stops: u64,
 }
@@ -38,8 +39,8 @@ impl<'a, R: Source + Drop> Listening<'a, R> {
         alloc: Global,
         source: R,
         faults: FaultFinder<'a>,
-        notes: &'a Notes,
-        pending: &'a Cell<Option<Request>>,
+        notes: &'a Notes<'a>,
+        pending: &'a Cell<Option<Head>>,
     ) -> Listening<'a, R>
         ensures log { ⟦<Listening<'a, R> as Source>⟧.log result ≡ R.log source }
         ensures faults { result.faults ≡ faults.entry }

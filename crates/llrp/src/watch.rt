@@ -10,35 +10,36 @@ ghost use Rattle.llrp.specs.Private.Refusals.{ended_by};
 ghost use Rattle.llrp.specs.Calls.Watch.{FollowsLasting, FollowsStop, PrintsMessages, PrintsTo};
 ghost use Rattle.llrp_endpoints.specs.MarkedLines.{name_in};
 
-use crate::access::{Access, deletions, refuse_access, saying};
+use crate::access::{Access, refuse_access, saying};
 use crate::address::Address;
 use crate::connecting::{connect, say_connected};
-use crate::deadline::{Deadline, Until, end_after, is_past, no_longer};
+use crate::deadline::{Deadline, end_after, is_past, no_longer};
 use crate::decibels::read_power;
-use crate::farewell::leave;
 use crate::faults::FaultFinder;
-use crate::heard_frames::Asking;
 use crate::labels::asked_labels;
+use crate::leaving::{Connection, Parting, leave_after, say_left};
 use crate::listening::Listening;
 use crate::message_printer::MessagePrinter;
 use crate::network::conclude;
 use crate::noted::Noted;
 use crate::notes::Notes;
+use crate::patience::bounds_of;
 use crate::plan::{NoPlan, refuse};
 use crate::powered::{Stopped, Wanted, refuse_power, take_powered};
 use crate::printing::Printing;
 use crate::saving::{SAVE_LINE, Saved, Saving};
 use crate::tag_printer::TagPrinter;
+use crate::timed::{TimedReads, TimedWrites};
+use crate::waiting::{NO_BOUNDS, Waiting};
 use crate::watch_plan::{
-    ALL_ANTENNAS, KEEPALIVE, MadeRoSpec, OWN_ID, open_rospec, stop_plan, watch_form, watch_plan,
+    ALL_ANTENNAS, MadeRoSpec, OWN_ID, open_rospec, stop_plan, watch_form, watch_plan,
 };
 use llrp_commands::{StopWords, WatchWords};
 use llrp_endpoints::{Plan, run_inventory, run_watching};
 use llrp_files::FAILED;
 use llrp_listing::{ToolErr, write_all};
-use llrp_stream::{Input, Output, Sink, Source};
+use llrp_stream::{Output, Sink, Source};
 use std::alloc::Global;
-use std::cell::Cell;
 use std::io::Write;
 use std::net::TcpStream;
 use std::thread;
@@ -47,11 +48,11 @@ use std::time::{Duration, Instant};
 /// The most octets that a message may have for `stop`.
 const MOST_OCTETS: u32 = 1_048_576;
 
-/// After how many periods without an octet the reader is taken for dead.
-const SILENT_PERIODS: u64 = 3;
-
 /// For how many seconds `stop` waits for a reader where nothing is said of it.
 const PATIENCE: u16 = 5;
+
+/// For how many milliseconds it waits before it asks a reader again that refused the connection.
+const PAUSE: u64 = 1_000;
 
 /// Follows a plan that lasts with the reader whose octets the source gives, of whose messages none
 /// may be longer than `limit`. Writes to the reader, and prints the lines of tags.
@@ -103,36 +104,17 @@ pub fn take_messages<R: Source, S: Sink, W: Write + Drop>(
 pub fn take_stop<W: Sink>(
     alloc: Global,
     stream: &TcpStream,
+    waiting: &Waiting<'_>,
     plan: Plan,
     report: &mut W,
 ) -> Result<(), ToolErr>
     requires { IsFreshSink (W.log report.old) }
     ensures { FollowsStop plan (W.log report.old) (W.log report.new) result }
 {
-    let mut source = Input::new(stream);
-    let mut sink = Output::new(stream);
+    let mut source = TimedReads::new(alloc, waiting, stream);
+    let mut sink = TimedWrites::new(alloc, waiting, stream);
     run_inventory(alloc, plan, MOST_OCTETS, &mut source, &mut sink, report)?;
     Ok(())
-}
-
-/// How long the reader may send nothing, and take nothing: for ever if it sends no KEEPALIVEs.
-fn silence(words: WatchWords<'_>) -> Option<Duration> {
-    match words.keepalive.unwrap_or(KEEPALIVE) {
-        0 => None,
-        seconds => Some(Duration::from_secs(SILENT_PERIODS * seconds as u64)),
-    }
-}
-
-/// Whether the client ended a run while the connection stands: the lines of tags could not be
-/// written, a request was refused, something strange came, or the reader has no power that low. A reader
-/// to which nothing was sent has not accepted the connection.
-fn is_the_clients_end(outcome: Result<(), Stopped>, failed: bool, was_accepted: bool) -> bool {
-    match outcome {
-        Err(Stopped::Run(ToolErr::Write)) => failed,
-        Err(Stopped::Run(ToolErr::Peer(_) | ToolErr::Strange)) => was_accepted,
-        Err(Stopped::Power(_)) => true,
-        _ => false,
-    }
 }
 
 /// What all connections of a `watch` share.
@@ -142,9 +124,9 @@ struct Watching<'a> {
     /// What is sent beside the plan.
     access: Option<&'a Access>,
     /// What --verbose asks for.
-    notes: &'a Notes,
+    notes: &'a Notes<'a>,
     /// What is said without it.
-    warnings: &'a Notes,
+    warnings: &'a Notes<'a>,
     /// When it ends, if it ends.
     until: Option<Instant>,
 }
@@ -177,21 +159,6 @@ fn wanted_of(watch: Watching<'_>) -> Option<Wanted<'_>> {
         made: rospec_of(watch.words),
         most: read_power(watch.words.power?)?,
     })
-}
-
-/// Ends a connection whose client does not know that the time is up, as nothing came: as its plan would,
-/// without awaiting each response. If the reader then closes it, all is well.
-fn end_in_silence(
-    alloc: Global,
-    stream: &TcpStream,
-    before: &[u8],
-    id: u32,
-) -> Result<(), Stopped> {
-    if leave(alloc, stream, before, true, id) {
-        Ok(())
-    } else {
-        Err(Stopped::Run(ToolErr::Read))
-    }
 }
 
 /// Follows a plan that lasts, or the one with the power that the words want. Returns how that ended, and
@@ -246,33 +213,44 @@ fn refused_or(refused: Option<u16>, outcome: Result<(), Stopped>) -> Result<(), 
 /// where its frames were saved. Where the client ends it, the ROSpec is deleted.
 fn watch_stream<P: Printing>(
     rt: &HostRuntime,
-    stream: &TcpStream,
+    connection: Connection<'_>,
     plan: Plan,
     watch: Watching<'_>,
-    deadline: &Deadline,
     saving: Saving,
     printer: &mut P,
-) -> (Result<(), Stopped>, Saving)
+) -> (Parting, Saving)
     requires limit { IsLongest watch.words.limit }
 {
     let alloc = rt.alloc();
+    let Connection {
+        stream,
+        waiting,
+        ..
+    } = connection;
     let (own_id, limit) = (plan.rospec_id(), watch.words.limit);
-    let pending = Cell::new(None);
-    let reads = Until::new(rt, stream, deadline, silence(watch.words));
-    let saved = Saved::new(alloc, limit, reads, saving);
+    let saved = Saved::new(
+        alloc,
+        limit,
+        TimedReads::new(alloc, waiting, stream),
+        saving,
+    );
     let faults = finder_of(alloc, watch);
-    let source = Listening::new(alloc, saved, faults, watch.notes, &pending);
-    let mut sink = Noted::new(Asking::new(alloc, Output::new(stream), &pending));
+    let source = Listening::new(alloc, saved, faults, watch.notes, &waiting.pending);
+    let mut sink = Noted::new(TimedWrites::new(alloc, waiting, stream));
     let (taken, source) = take_wanted(alloc, plan, watch, source, &mut sink, printer);
-    let mut outcome = refused_or(source.refused(), taken);
-    let is_read = outcome == Err(Stopped::Run(ToolErr::Read));
-    let before = deletions(alloc, watch.access);
-    if is_read && sink.took() && deadline.is_missed(rt) {
-        outcome = end_in_silence(alloc, stream, before.as_slice(), own_id);
-    } else if is_the_clients_end(outcome, printer.has_failed(), sink.took()) {
-        leave(alloc, stream, before.as_slice(), false, own_id);
-    }
-    (outcome, source.into_source().into_saving())
+    let outcome = refused_or(source.refused(), taken);
+    watch.warnings.say_counts();
+    watch.notes.say_counts();
+    let parting = if sink.took() {
+        let has_failed = printer.has_failed();
+        leave_after(rt, connection, watch.access, outcome, has_failed, own_id)
+    } else {
+        Parting {
+            outcome,
+            is_left: false,
+        }
+    };
+    (parting, source.into_source().into_saving())
 }
 
 /// The name of the reader that the words give.
@@ -312,22 +290,32 @@ fn watch_connection<P: Printing>(
 ) -> Result<(Ending, Saving), ToolErr>
     requires { IsLongest watch.words.limit }
 {
-    let (outcome, saving) = match connect(rt, reader, silence(watch.words)) {
+    let own_id = plan.rospec_id();
+    let waiting = Waiting::new(rt, bounds_of(watch.words)).with_deadline(deadline);
+    let (parting, saving) = match connect(rt, reader, &waiting) {
         Some(stream) => {
             say_connected(rt.alloc(), watch.notes, &stream);
-            let (outcome, saving) = watch_stream(
-                rt, &stream, plan, watch, deadline, saving, printer,
-            );
-            (Some(outcome), saving)
+            let connection = Connection {
+                stream: &stream,
+                waiting: &waiting,
+                deadline,
+            };
+            let (parting, saving) = watch_stream(rt, connection, plan, watch, saving, printer);
+            (Some(parting), saving)
         }
         None => (None, saving),
     };
+    let outcome = parting.map(|parting| parting.outcome);
     let has_no_power = matches!(outcome, Some(Err(Stopped::Power(_))));
     let ending = Ending {
         status: conclude_watch(rt.alloc(), outcome, &mut Output::new(rt.stderr()))?,
         is_last: has_no_power || printer.has_failed() || is_past(rt, watch.until),
         took_tags: printer.has_printed_tags(),
     };
+    let is_left = parting.is_some_and(|parting| parting.is_left);
+    if ending.status != 0 && deadline.is_up(rt) && !is_left {
+        say_left(rt.alloc(), watch.warnings, own_id);
+    }
     Ok((ending, saving))
 }
 
@@ -445,14 +433,14 @@ fn stop_once(
     reader: Address<'_>,
     words: StopWords<'_>,
     access: Option<&Access>,
-    timeout: Duration,
+    waiting: &Waiting<'_>,
 ) -> Result<Option<Result<(), ToolErr>>, NoPlan> {
     let alloc = rt.alloc();
     let plan = open_rospec(rt, alloc, words.watch.rospec, own_rospec(words))?;
     let plan = saying(alloc, stop_plan(plan), access)?;
     let mut report = Output::new(Vec::new(alloc));
-    Ok(match connect(rt, reader, Some(timeout)) {
-        Some(stream) => Some(take_stop(alloc, &stream, plan, &mut report)),
+    Ok(match connect(rt, reader, waiting) {
+        Some(stream) => Some(take_stop(alloc, &stream, waiting, plan, &mut report)),
         None => None,
     })
 }
@@ -462,7 +450,8 @@ fn is_refused(outcome: Option<Result<(), ToolErr>>) -> bool {
     matches!(outcome, Some(Err(ToolErr::Peer(1..=3))))
 }
 
-/// Deletes these. A reader that refuses the connection is asked again each second until the time is up.
+/// Deletes these within the seconds that the words say, in all. A reader that refuses the connection is asked
+/// again each second meanwhile.
 fn stop_within(
     rt: &HostRuntime,
     reader: Address<'_>,
@@ -470,15 +459,15 @@ fn stop_within(
     access: Option<&Access>,
 ) -> Result<Option<Result<(), ToolErr>>, NoPlan> {
     let seconds = words.timeout.unwrap_or(PATIENCE);
-    let timeout = Duration::from_secs(seconds as u64);
+    let waiting = Waiting::new(rt, NO_BOUNDS).within(1_000 * seconds as u64);
     for _ in 0..seconds {
-        let outcome = stop_once(rt, reader, words, access, timeout)?;
-        if !is_refused(outcome) {
+        let outcome = stop_once(rt, reader, words, access, &waiting)?;
+        if !is_refused(outcome) || !waiting.has_left(PAUSE) {
             return Ok(outcome);
         }
-        thread::sleep(rt, Duration::from_secs(1));
+        thread::sleep(rt, Duration::from_millis(PAUSE));
     }
-    stop_once(rt, reader, words, access, timeout)
+    stop_once(rt, reader, words, access, &waiting)
 }
 
 /// Deletes what a `watch` with the same words left on the reader, its ROSpec and the AccessSpecs that the file

@@ -82,6 +82,11 @@ impl FrameCutter {
         }
     }
 
+    /// Whether what came ends within a frame.
+    pub fn is_cut(&self) -> bool {
+        self.missing > 0 || !self.held.is_empty()
+    }
+
     /// Leaves out of a piece what belongs to a frame that is too long.
     fn shorten<'a>(&mut self, piece: &'a [u8]) -> &'a [u8] {
         let skipped = piece.len().min(self.missing as usize);
