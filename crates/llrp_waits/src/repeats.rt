@@ -57,10 +57,7 @@ impl Repeats {
     pub fn told(self) -> Repeats
         ensures { result ≡ told self }
     {
-        Repeats {
-            held: 0,
-            ..self
-        }
+        Repeats { held: 0, ..self }
     }
 
     /// How many came since the last that was written.
