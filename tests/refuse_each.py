@@ -1,9 +1,9 @@
 #!/usr/bin/env python3
 """Makes single calls with each of their requests for memory refused in turn: each alone, and each with all after it.
 
-usage: tests/refuse_each.py [PROGRAM]
+usage: tests/refuse_each.py [PROGRAM PROGRAM PROGRAM]
 
-PROGRAM is that of the crate `test_calls`, in its folder out/, where none is given. Every such run has to answer what
+The programs are those of the crates `test_calls`, `test_tag_calls` and `test_end_calls`, in their folders out/, where none are given. Every such run has to answer what
 the call answers with enough memory, or Memory with what the call promises to leave then; and some run of each call that takes
 memory has to answer Memory. The last line is `N passed, M failed`; the status is 1 if something failed.
 """
@@ -14,8 +14,7 @@ import tempfile
 from parts.counting import finish
 from parts.exchanges import client_rows, reader_rows
 from parts.refusing import build_library, each_refused, run
-from parts.repository import program_given
-from parts.rows import Row, given_to, rows_in
+from parts.rows import Row, given_to, program_of, programs_given, rows_in
 from parts.vectors import vectors
 
 # Calls that write: after Memory a front of what they write with enough memory was written.
@@ -134,12 +133,12 @@ def run_row(library, program, row):
 
 
 def main():
-    program = program_given("test_calls")
+    programs = programs_given()
     calls, total = {}, collections.Counter()
     with tempfile.TemporaryDirectory() as folder:
         library = build_library(folder)
         for row in all_rows():
-            ample, seen, wrong = run_row(library, program, row)
+            ample, seen, wrong = run_row(library, program_of(row.call, programs), row)
             count = calls.setdefault(row.call, collections.Counter())
             count.update(seen, rows=1, requests=ample.requests or 0)
             total["failed"] += max(seen["failed"], bool(wrong))

@@ -2,9 +2,9 @@
 """Compares what calls answer with the rows below tests/rows/, whose expected answers come from the standards, and with the conformance vectors:
 each stream of these is listed, whole and cut at each of its places, and the listing of a lawful one is encoded back.
 
-usage: tests/rows.py [PROGRAM]
+usage: tests/rows.py [PROGRAM PROGRAM PROGRAM]
 
-PROGRAM is that of the crate `test_calls`, in its folder out/, where none is given. The last line is `N passed, M failed`; the status is 1
+The programs are those of the crates `test_calls`, `test_tag_calls` and `test_end_calls`, in their folders out/, where none are given. The last line is `N passed, M failed`; the status is 1
 if something failed.
 """
 import os
@@ -13,8 +13,7 @@ import sys
 from concurrent.futures import ThreadPoolExecutor
 
 from parts.counting import finish
-from parts.repository import program_given
-from parts.rows import FOLDER, Row, are_same, given_to, rows_in
+from parts.rows import FOLDER, Row, are_same, given_to, program_of, programs_given, rows_in
 from parts.vectors import vectors
 
 # How many rows there are, with those of the vectors.
@@ -68,10 +67,10 @@ def fault(row, found):
 
 
 def main():
-    program = program_given("test_calls")
+    programs = programs_given()
     rows = [*vector_rows(), *(row for name in names_of_files() for row in rows_in(name) if row.is_compared)]
     with ThreadPoolExecutor(os.cpu_count()) as pool:
-        faults = list(pool.map(lambda row: fault(row, answered(program, row)), rows))
+        faults = list(pool.map(lambda row: fault(row, answered(program_of(row.call, programs), row)), rows))
     for row, wrong in zip(rows, faults):
         if wrong:
             print(f"WRONG: {row.name}, {row.call}: {wrong[:700]}")

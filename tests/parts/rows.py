@@ -1,4 +1,4 @@
-"""The rows below tests/rows/: calls of the program test_calls, and what each has to answer.
+"""The rows below tests/rows/: calls of the programs test_calls, test_tag_calls and test_end_calls, and what each has to answer.
 
 The first line of a file says how many rows it has, and a line that begins with # is a comment. A row is a line whose columns are split
 by tabs: its name, the call, the call's words, => and a column for each line that the call answers. Steps of an exchange follow their row
@@ -16,12 +16,34 @@ import shlex
 import sys
 from typing import List, NamedTuple, Optional, Tuple
 
-from parts.repository import TESTS
+from parts.repository import TESTS, built
 
 FOLDER = os.path.join(TESTS, "rows")
 PIECE = re.compile(r'\s*(?:("(?:[^"\\]|\\.)*")|<([\w.]+)>|([0-9A-Fa-f]+)|(\())')
 TIMES = re.compile(r"\*(\d+)")
 HEADING = r"# (\d+) rows: name, call, words, =>, what it answers, split by tabs"
+
+
+# The calls of words, texts and keys of tags, and those of ends of a connection, scripts and plans; test_calls has the others.
+TAG_CALLS = """
+    add-prefix all-parts all-text all-word company count-digits form form-named form-of forms further-id further-key further-key-of id id-of
+    key key-of list-of-texts object prefix read-form supplier-id
+""".split()
+END_CALLS = """
+    among among-failing ask ask-failing client gathering gathering-cut inventory own plan reader rospec script script-read segments-failing
+    serve serving serving-cut steps
+""".split()
+PROGRAMS = ("test_calls", "test_tag_calls", "test_end_calls")
+
+
+def programs_given():
+    """Returns the programs that the script's words name, in the order of PROGRAMS, or where it has none those of the crates."""
+    return [os.path.abspath(it) for it in sys.argv[1:]] or [built(it) for it in PROGRAMS]
+
+
+def program_of(call, programs):
+    """Returns which of these programs makes a call."""
+    return programs[1 if call in TAG_CALLS else 2 if call in END_CALLS else 0]
 
 
 class Row(NamedTuple):

@@ -1,10 +1,10 @@
 //! The commands, and what words ask for.
 
-use crate::octets::{allow_growths, octets_of, print_octets, refuse_growths};
 use anyhow::{Result, bail};
 use llrp_commands::{files_asked, network_command, reads_input, run_command, texts_asked};
 use llrp_stream::Input;
 use test_devices::Room;
+use test_devices::rows::{allow_growths, octets_of, print_octets, refuse_growths};
 
 /// Makes a call of this module, and returns whether it has one of this name.
 pub fn make(rt: &HostRuntime, call: &str, row: &[String]) -> Result<bool> {

@@ -1,11 +1,11 @@
 //! Streams and listings that come in pieces, cut at each of their places.
 
-use crate::octets::{only_octets, print_octets};
 use anyhow::{Result, bail};
 use llrp_listing::{ToolErr, Verdict, run_encode, run_show};
 use llrp_stream::Output;
 use std::alloc::Global;
 use test_devices::Pieces;
+use test_devices::rows::{only_octets, print_octets};
 
 /// Makes a call of this module, and returns whether it has one of this name.
 pub fn make(rt: &HostRuntime, call: &str, row: &[String]) -> Result<bool> {

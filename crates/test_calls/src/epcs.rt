@@ -1,9 +1,9 @@
 //! Words of tags and their texts.
 
-use crate::octets::{allow_growths, only_octets, print_octets, refuse_growths, text_of};
 use anyhow::{Result, bail};
 use llrp_listing::{ToolErr, bytes_of_hex, run_epc};
 use test_devices::Room;
+use test_devices::rows::{allow_growths, only_octets, print_octets, refuse_growths, text_of};
 
 /// Makes a call of this module, and returns whether it has one of this name.
 pub fn make(rt: &HostRuntime, call: &str, row: &[String]) -> Result<bool> {

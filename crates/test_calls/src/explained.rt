@@ -1,6 +1,5 @@
 //! Streams with every bit accounted for, and the messages of captures.
 
-use crate::octets::{allow_growths, only_octets, print_octets, refuse_growths};
 use anyhow::Result;
 use llrp_explain::{StreamText, explain_stream};
 use llrp_listing::Verdict;
@@ -9,6 +8,7 @@ use llrp_sides::{Form, ShowErr, show_segments};
 use llrp_stream::Input;
 use std::alloc::AllocError;
 use test_devices::Room;
+use test_devices::rows::{allow_growths, only_octets, print_octets, refuse_growths};
 
 /// Makes a call of this module, and returns whether it has one of this name.
 pub fn make(rt: &HostRuntime, call: &str, row: &[String]) -> Result<bool> {

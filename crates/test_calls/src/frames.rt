@@ -1,13 +1,13 @@
 //! The calls on whole frames and on pieces of a stream.
 
-use crate::octets::{
-    allow_growths, message_of, octets_of, only_octets, print_octets, refuse_growths, spelled,
-};
 use anyhow::{Context, Result, bail};
 use llrp_stream::{Decoder, FeedErr, Item};
 use llrp_tree::{FrameErr, MAX_LIMIT, Message, decode_frame, encode_into};
 use std::alloc::Global;
 use tag_bits::get;
+use test_devices::rows::{
+    allow_growths, message_of, octets_of, only_octets, print_octets, refuse_growths, spelled,
+};
 
 /// Makes a call of this module, and returns whether it has one of this name.
 pub fn make(rt: &HostRuntime, call: &str, row: &[String]) -> Result<bool> {

@@ -1,6 +1,5 @@
 //! Listings and lines of tags with labels, of all schemes with keys.
 
-use crate::octets::{octets_of, only_octets, print_octets};
 use anyhow::{Result, bail};
 use llrp_labels::{
     LabelErr, LabelFault, Labels, PlainErr, label_tags, label_text, list_labelled, plain_text,
@@ -9,6 +8,7 @@ use llrp_labels::{
 use llrp_schema::KindSet;
 use llrp_stream::{Input, Output};
 use std::alloc::Global;
+use test_devices::rows::{octets_of, only_octets, print_octets};
 
 /// Makes a call of this module, and returns whether it has one of this name.
 pub fn make(rt: &HostRuntime, call: &str, row: &[String]) -> Result<bool> {

@@ -1,14 +1,13 @@
 //! The commands over whole streams and listings.
 
-use crate::octets::{
-    allow_growths, message_of, octets_and_limit, only_octets, print_octets, refuse_growths,
-};
 use anyhow::Result;
-use llrp_endpoints::own_message;
 use llrp_listing::{run_encode, run_show};
 use llrp_stream::{Input, write_message};
-use llrp_tree::{KindSet, MAX_LIMIT, encode_into};
-use test_devices::{Room, decoded_in};
+use llrp_tree::MAX_LIMIT;
+use test_devices::Room;
+use test_devices::rows::{
+    allow_growths, message_of, octets_and_limit, only_octets, print_octets, refuse_growths,
+};
 
 /// Makes a call of this module, and returns whether it has one of this name.
 pub fn make(rt: &HostRuntime, call: &str, row: &[String]) -> Result<bool> {
@@ -16,7 +15,6 @@ pub fn make(rt: &HostRuntime, call: &str, row: &[String]) -> Result<bool> {
         "show" => show(rt, row)?,
         "list" => list(rt, row)?,
         "write" => write(rt, row)?,
-        "own" => own(rt, row)?,
         _ => return Ok(false),
     }
     Ok(true)
@@ -58,22 +56,4 @@ fn write(rt: &HostRuntime, row: &[String]) -> Result<()> {
     allow_growths(rt)?;
     println!(rt; "answer {done:?}")?;
     print_octets(rt, "wrote", sink.taken())
-}
-
-/// Calls `own_message` on the message of a frame that is read in the whole standard.
-fn own(rt: &HostRuntime, row: &[String]) -> Result<()> {
-    let alloc = rt.alloc();
-    let frame = only_octets(alloc, row)?;
-    let Some(Ok(message)) = decoded_in(alloc, KindSet::Standard, frame.as_slice()) else {
-        println!(rt; "answer no message")?;
-        return Ok(());
-    };
-    let Some(own) = own_message(alloc, &message).ok().flatten() else {
-        println!(rt; "answer none")?;
-        return Ok(());
-    };
-    let mut found = Vec::new(alloc);
-    let done = encode_into(alloc, &own, &mut found, 65_536).is_ok();
-    println!(rt; "answer {done}")?;
-    print_octets(rt, "wrote", found.as_slice())
 }

@@ -3,9 +3,11 @@
 //!
 //! Use it in tests of calls over a source and a sink. [`Pieces`] gives a stream in pieces of one length after
 //! a first piece, and [`Room`] takes what fits into a fixed size; [`Dripping`] and [`Taking`] move one octet
-//! a call and [`Lines`] a line, and fail in the n-th.
+//! a call and [`Lines`] a line, and fail in the n-th. [`rows`] has what the programs read and print that make one
+//! call of a row of tests.
 #![tactic(auto)]
 
+pub mod rows;
 mod sightings;
 mod sinks;
 mod sources;

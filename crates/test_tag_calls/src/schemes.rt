@@ -1,12 +1,12 @@
 //! Words in the set of all schemes, and their texts.
 
-use crate::octets::{octets_of, text_of};
 use anyhow::{Context, Result, bail};
 use std::alloc::Global;
 use tag_bits::Word;
 use tag_schemes::{
     fault_in_all, numbers_of, supplier_of, text_in_all, word_in_all, word_of, word_of_supplier,
 };
+use test_devices::rows::{octets_of, text_of};
 
 /// Makes a call of this module, and returns whether it has one of this name.
 pub fn make(rt: &HostRuntime, call: &str, row: &[String]) -> Result<bool> {

@@ -1,7 +1,6 @@
 //! Calls over sources and sinks that move an octet a call and fail in one: for each call in turn, what was
 //! written is a front of what is written without a failure.
 
-use crate::octets::{octets_of, only_octets};
 use crate::talks::{OneOther, Replies, replies_of, steps_from};
 use crate::texts::script_of;
 use anyhow::{Result, bail};
@@ -14,6 +13,7 @@ use llrp_session::Reader;
 use llrp_sides::{Form as Listed, ShowErr, show_segments};
 use llrp_tree::MAX_LIMIT;
 use std::alloc::Global;
+use test_devices::rows::{octets_of, only_octets};
 use test_devices::{Dripping, Failure, NEVER, Taking};
 
 /// Makes a call of this module, and returns whether it has one of this name.

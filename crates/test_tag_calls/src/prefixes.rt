@@ -1,9 +1,9 @@
 //! Tables of company prefixes.
 
-use crate::octets::text_of;
 use anyhow::{Context, Result, bail};
 use std::alloc::Global;
 use tag_forms::{Company, Prefixes};
+use test_devices::rows::text_of;
 
 /// Makes a call of this module, and returns whether it has one of this name.
 pub fn make(rt: &HostRuntime, call: &str, row: &[String]) -> Result<bool> {

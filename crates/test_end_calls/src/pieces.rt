@@ -1,6 +1,5 @@
 //! Both ends of a connection whose octets come in pieces.
 
-use crate::octets::{allow_growths, octets_of, print_octets, refuse_growths};
 use crate::texts::{plan_of, script_of};
 use anyhow::{Context, Result, bail};
 use llrp_endpoints::{Gathering, Plan, Script, Serving};
@@ -8,6 +7,7 @@ use llrp_listing::ToolErr;
 use llrp_session::Reader;
 use llrp_tree::MAX_LIMIT;
 use std::alloc::Global;
+use test_devices::rows::{allow_growths, octets_of, print_octets, refuse_growths};
 
 /// Makes a call of this module, and returns whether it has one of this name.
 pub fn make(rt: &HostRuntime, call: &str, row: &[String]) -> Result<bool> {

@@ -3,11 +3,13 @@
 ghost use Rattle.std.specs.Prelude.{IfOk};
 ghost use Rattle.llrp_session.specs.Calls.LawfulWords.{AddsRoSpec};
 
-use crate::octets::{allow_growths, message_of, octets_of, print_octets, refuse_growths, spelled};
 use anyhow::{Context, Result, bail};
 use llrp_session::{Client, CmdFault, Command, TakeFault, Taken};
 use llrp_tree::{MAX_LIMIT, Message, Node, ParamKind};
 use std::alloc::Global;
+use test_devices::rows::{
+    allow_growths, message_of, octets_of, print_octets, refuse_growths, spelled,
+};
 
 /// Makes the call of this module, and returns whether it has this name.
 pub fn make(rt: &HostRuntime, call: &str, row: &[String]) -> Result<bool> {

@@ -1,12 +1,12 @@
 //! Scripts and plans, and the texts that they are made of.
 
-use crate::octets::{allow_growths, octets_of, only_octets, refuse_growths};
 use anyhow::{Context, Result, bail};
 use llrp_endpoints::{Action, LineForm, Plan, PlanErr, Script, checked_plan, standard_plan};
 use llrp_listing::ToolErr;
 use llrp_tree::KindSet;
 use std::alloc::Global;
 use test_devices::Pieces;
+use test_devices::rows::{allow_growths, octets_of, only_octets, refuse_growths};
 
 /// Makes a call of this module, and returns whether it has one of this name.
 pub fn make(rt: &HostRuntime, call: &str, row: &[String]) -> Result<bool> {

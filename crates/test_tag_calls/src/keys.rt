@@ -2,7 +2,6 @@
 
 ghost use Rattle.std.specs.Prelude.{◌≤◌, IfOk};
 
-use crate::octets::text_of;
 use anyhow::{Context, Result, bail};
 use std::alloc::Global;
 use tag_keys::{KeyFault, Spelling, digits_from_company, parse_id, parse_key, print_id, print_key};
@@ -10,6 +9,7 @@ use tag_scheme_keys::{
     parse_id_in, parse_key_in, parse_supplier_id, print_id_in, print_key_in, print_supplier_id,
 };
 use tag_uri::{parse, print};
+use test_devices::rows::text_of;
 
 /// Makes a call of this module, and returns whether it has one of this name.
 pub fn make(rt: &HostRuntime, call: &str, row: &[String]) -> Result<bool> {

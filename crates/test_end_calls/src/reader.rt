@@ -3,12 +3,12 @@
 ghost use Rattle.std.specs.Prelude.{◌≤◌, IfOk};
 ghost use Rattle.llrp_tree.specs.declared.TheConstants.{MAX_LIMIT};
 
-use crate::octets::{allow_growths, octets_of, refuse_growths, spelled};
 use anyhow::{Context, Result, bail};
 use llrp_session::{Reader, ReaderIn, Sighting, StepFault};
 use llrp_tree::{FrameErr, MAX_LIMIT, Message, decode_frame};
 use std::alloc::Global;
 use tag_bits::{Word, get};
+use test_devices::rows::{allow_growths, octets_of, refuse_growths, spelled};
 
 /// Makes the call of this module, and returns whether it has this name.
 pub fn make(rt: &HostRuntime, call: &str, row: &[String]) -> Result<bool> {

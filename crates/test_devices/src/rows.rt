@@ -1,4 +1,5 @@
-//! Reads octets, texts, numbers and messages from words, and prints the lines of a run.
+//! What a program that makes one call of a row of tests reads and prints: words, and octets, texts, numbers and
+//! messages in them; the lines of a run.
 
 ghost use Rattle.std.specs.Prelude.{◌≤◌, IfOk};
 ghost use Rattle.llrp_tree.specs.declared.TheConstants.{MAX_LIMIT};
@@ -9,6 +10,15 @@ use llrp_tree::{MAX_LIMIT, Message, decode_frame, encode_into};
 use std::alloc::Global;
 use std::io;
 use tag_bits::get;
+
+/// The words on standard input, a line each: a call and what it is given.
+pub fn words_given(rt: &HostRuntime) -> Result<Vec<String>> {
+    let mut words = Vec::new(rt.alloc());
+    for line in rt.lines(rt.alloc()) {
+        words.push(line?)?;
+    }
+    Ok(words)
+}
 
 /// Marks the place from which on requests for memory may be refused.
 pub fn refuse_growths(rt: &HostRuntime) -> io::Result<()> {

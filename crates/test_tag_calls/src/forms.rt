@@ -4,7 +4,6 @@ ghost use Rattle.std.specs.Int.{IsInRange};
 ghost use Rattle.std.specs.Prelude.{IfOk, IfSome};
 
 use crate::keys::{company_digits_of, filter_of};
-use crate::octets::{octets_of, print_octets, text_of};
 use crate::schemes::{print_word, word_from};
 use anyhow::{Context, Result, bail};
 use std::alloc::Global;
@@ -13,6 +12,7 @@ use tag_forms::{
     push_forms_in_all, push_wanted, read_in_all, text_in, word_in,
 };
 use tag_keys::KeyFault;
+use test_devices::rows::{octets_of, print_octets, text_of};
 
 /// Makes a call of this module, and returns whether it has one of this name.
 pub fn make(rt: &HostRuntime, call: &str, row: &[String]) -> Result<bool> {

@@ -4,7 +4,6 @@
 ghost use Rattle.std.specs.Prelude.{None, ◌≡◌};
 ghost use Rattle.llrp_stream.specs.Calls.Device.{new_source};
 
-use crate::octets::{allow_growths, octets_of, print_octets, refuse_growths};
 use crate::texts::script_of;
 use anyhow::{Context, Result, bail};
 use llrp_answers::Answers;
@@ -16,6 +15,7 @@ use llrp_tree::MAX_LIMIT;
 use std::alloc::Global;
 use std::io;
 use test_devices::Room;
+use test_devices::rows::{allow_growths, octets_of, print_octets, refuse_growths};
 
 /// Makes a call of this module, and returns whether it has one of this name.
 pub fn make(rt: &HostRuntime, call: &str, row: &[String]) -> Result<bool> {
