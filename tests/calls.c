@@ -67,13 +67,13 @@ static const char FAULT_LINE[] = "{\"fault\":\"MessageType\",\"id\":7,\"bit\":6}
 static const char REQUEST_LINE[] = "{\"message\":\"GET_READER_CAPABILITIES\",\"version\":2,\"id\":7,\"RequestedData\":0}\n";
 /* The fields of the first frame, of both with the octet after them, and of that message, with the profile alone too. */
 #define COLUMNS "BIT WIDTH LEVEL FIELD VALUE\n"
-#define KEEPALIVE_LINES "0 3 0 reserved 0\n3 3 0 Version 2\n6 10 0 MessageType 62\n16 32 0 MessageLength 10\n48 32 0 MessageID "
+#define KEEPALIVE_LINES "0 3 0 reserved 0\n3 3 0 Version 2\n6 10 0 MessageType 62\tKEEPALIVE\n16 32 0 MessageLength 10\n48 32 0 MessageID "
 static const char EXPLAINED[] = "frame 1, 10 octets\n" COLUMNS KEEPALIVE_LINES "7\n";
 static const char STREAM_EXPLAINED[] = "frame 1, 10 octets\n" COLUMNS KEEPALIVE_LINES "7\nframe 2, 10 octets\n" COLUMNS KEEPALIVE_LINES "8\n? 1\n";
 static const char FAULT_EXPLAINED[] = "frame 1, 11 octets\n" COLUMNS "then, refused:\n0 3 0 reserved 0\n3 3 0 Version 2\n6 10 0 MessageType 1\n"
                                       "fault at bit 6, octet 0: MessageType: 1 is of no message of the profile\n";
-static const char REQUEST_EXPLAINED[] = "frame 1, 11 octets\n" COLUMNS "0 3 0 reserved 0\n3 3 0 Version 2\n6 10 0 MessageType 1\n"
-                                        "16 32 0 MessageLength 11\n48 32 0 MessageID 7\n80 8 0 RequestedData 0\n";
+static const char REQUEST_EXPLAINED[] = "frame 1, 11 octets\n" COLUMNS "0 3 0 reserved 0\n3 3 0 Version 2\n6 10 0 MessageType 1\tGET_READER_CAPABILITIES\n"
+                                        "16 32 0 MessageLength 11\n48 32 0 MessageID 7\n80 8 0 RequestedData 0\tAll\n";
 /* A report of a tag of which all is said that a struct llrp_tag has, with a custom parameter, and of one of which only an EPCData of
  * eight bits is. */
 static const uint8_t REPORT[] = {4, 61, 0, 0, 0, 70, 0, 0, 0, 1,
