@@ -28,7 +28,7 @@ fn time_until(rt: &HostRuntime, until: Instant) -> Duration {
     }
 }
 
-/// How many milliseconds it is until so many seconds after a moment.
+/// How many milliseconds are left until this number of seconds after a moment.
 fn milliseconds_until(rt: &HostRuntime, until: Instant, more: u64) -> u64 {
     match until.checked_add(Duration::from_secs(more)) {
         Some(end) => u64::try_from(time_until(rt, end).as_millis()).unwrap_or(u64::MAX),

@@ -13,7 +13,7 @@ const LEAST_PATIENCE: u64 = 5_000;
 /// For how many milliseconds it is where the reader sends no KEEPALIVEs.
 const UNKEPT_PATIENCE: u64 = 30_000;
 
-/// How long each wait may last, where the reader was asked for a KEEPALIVE each so many milliseconds.
+/// How long each wait may last, where the reader was asked for a KEEPALIVE in each period of this many milliseconds.
 fn kept_bounds(period: u64) -> Bounds {
     let silence = period.saturating_mul(SILENT_PERIODS);
     let patience = Some(silence.max(LEAST_PATIENCE));

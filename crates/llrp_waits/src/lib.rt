@@ -1,6 +1,6 @@
 //! How long a client waits for its reader.
 //!
-//! Use it where a reader may live and yet not answer. [`Waits`] is a pure machine: it is told with its moment
+//! Use it where a reader may live and yet not answer. [`Waits`] is a pure machine: it takes, each with its moment,
 //! what was asked for and what came, and says how long the next read may take. The clock is the caller's: a
 //! moment is a number of milliseconds.
 //!
